@@ -1,5 +1,5 @@
 -- Replies in rows, one behind the other.
-use Rattle.std.proofs.Common.{◌≡◌, ℕ, ◌+◌, ◌<◌, List, [], ◌∷◌, ◌++◌, length, take, drop, get_or, sym, subst, ◌∙◌, ap}
+use Rattle.std.proofs.Common.{◌≡◌, ℕ, ◌+◌, ◌<◌, List, [], ◌∷◌, ◌++◌, length, take, drop, get_or, sym, subst, ◌∙◌, ap, arith, length-append}
 use Rattle.std.specs.List.{AllZip}
 use Rattle.std.proofs.lemmas.List.{take-append-drop, take_more}
 use Rattle.nx_script.specs.declared.command.Command.{Command}
@@ -24,10 +24,17 @@ zip_more R xs ys i d y so_far low here =
 -- the replies to two rows of questions are those to all
 pub rows_joined : (Is : State → Type 0) (questions front back : List Command) (at : ℕ) (low high all : List Reply) → front ≡ take at questions → back ≡ drop at questions
     → AreAsked Is front low → AreAsked Is back high → all ≡ low ++ high → AreAsked Is questions all
-rows_joined Is questions front back at low high all first second asked others joined = λ state is.
+rows_joined Is questions front back at low high all first second asked others joined =
     let whole : front ++ back ≡ questions = ap (λ (l : List Command). l ++ back) first ∙ ap (λ (l : List Command). take at questions ++ l) second ∙ take-append-drop at questions in
-    subst (λ (l : List Command). AllZip (Asked state) l all) whole
-    (subst (λ (l : List Reply). AllZip (Asked state) (front ++ back) l) (sym joined) (zip_joined (Asked state) front back low high (asked state is) (others state is)))
+    let replies : length (low ++ high) ≡ length low + length high = length-append low high in
+    let both : length (front ++ back) ≡ length front + length back = length-append front back in
+    let each : length low ≡ length front = asked.0 in
+    let other : length high ≡ length back = others.0 in (
+      ap length joined ∙ (let e : length (low ++ high) ≡ length (front ++ back) = omega (arith, replies, both, each, other) in e) ∙ ap length whole,
+      λ state is.
+          subst (λ (l : List Command). AllZip (Asked state) l all) whole
+          (subst (λ (l : List Reply). AllZip (Asked state) (front ++ back) l) (sym joined) (zip_joined (Asked state) front back low high (asked.1 state is) (others.1 state is))),
+    )
 
 -- why no question is answered about states is why none is answered about some of them
 pub not_asked_of : (Is Some : State → Type 0) (e : AskError) → ((state : State) → Some state → Is state) → NotAsked Is e → NotAsked Some e

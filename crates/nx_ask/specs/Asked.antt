@@ -1,5 +1,5 @@
 -- What questions are answered, and why they aren't.
-use Rattle.std.specs.Prelude.{◌≡◌, Bool, true, false, List, Some}
+use Rattle.std.specs.Prelude.{◌≡◌, Bool, true, false, List, length, Some}
 use Rattle.std.specs.Bool.{MatchBool}
 use Rattle.std.specs.List.{AllZip}
 use Rattle.nx_script.specs.declared.command.Command.{Command}
@@ -33,9 +33,9 @@ Asked state command r = MatchBool (is_question command) (Step state command r st
 abbrev pub IsSnapshotOf : Snapshot → State → Type 0
 IsSnapshotOf snapshot state = Recovers (snapshot_image snapshot) (Some state)
 
--- Questions to the state that `Is` says are answered so, in their order.
+-- Questions are answered so, in their order: each by one reply, and to the state that `Is` says by that of a store at it.
 abbrev pub AreAsked : (Is : State → Type 0) → List Command → List Reply → Type 0
-AreAsked Is questions replies = (state : State) → Is state → AllZip (Asked state) questions replies
+AreAsked Is questions replies = (length replies ≡ length questions) × ((state : State) → Is state → AllZip (Asked state) questions replies)
 
 -- Why a question to the state that `Is` says isn't answered: there is no such state, or no memory.
 abbrev pub NotAsked : (Is : State → Type 0) → AskError → Type 0

@@ -34,14 +34,14 @@ pub fn answer_one<R: Threads + Sync>(
     answer_over(rt, alloc, &mut disk, question)
 }
 
-/// The replies to questions, in their order: each as `answer_one` gives it, for every number of workers. There is at least one worker,
+/// The replies to questions, in their order: one to each, as `answer_one` gives it, for every number of workers. There is at least one worker,
 /// and there are fewer than 4,294,967,296 questions.
 ///
 /// The questions are cut into as many rows as there are workers, or into rows of one where there are fewer questions. The rows have
 /// the same number of questions but for one. Each row is answered by a thread, which opens a store of its own over the snapshot. The gate is told
 /// before and after each question, by its place.
 ///
-/// Errors: as `answer_one`. Where several questions aren't answered, it is the error of the first of these.
+/// Errors: as `answer_one`.
 pub fn answer_all<R: Threads + Sync, G: Gate>(
     rt: &R,
     alloc: Global,

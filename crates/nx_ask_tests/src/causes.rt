@@ -1,6 +1,6 @@
 // Why no snapshot is taken, and why a snapshot gives no answers.
-use crate::stores::{areas_of, ask_all, commands_of, empty_host, host_of, store_of, take};
-use nx_ask::AskError;
+use crate::stores::{areas_of, ask_all, ask_one, commands_of, empty_host, host_of, store_of, take};
+use nx_ask::{AskError, Snapshot};
 use nx_memory::{Image, MemoryHost};
 use nx_par::NoGate;
 use nx_tree::Bytes;
@@ -107,4 +107,89 @@ fn damages<R: Threads + Abort + Sync>(rt: &R, alloc: Global) -> Result<(), Fail>
 #[test]
 fn damaged_pages(rt: HostRuntime) -> Result<(), Fail> {
     damages(&rt, rt.alloc())
+}
+
+// A load of a document with more bytes than a page has.
+fn add_load(lines: &mut Vec<u8>, name: u8) -> Result<(), Fail> {
+    lines.extend_from_slice(b"load ")?;
+    lines.push(name)?;
+    lines.extend_from_slice(b"\n(a\n")?;
+    for _ in 0..400 {
+        lines.extend_from_slice(b"-a text of more than forty bytes, four hundred times\n")?;
+    }
+    lines.extend_from_slice(b")a\n.\n")?;
+    Ok(())
+}
+
+// A snapshot of a store with the documents `d` and `e`, on pages of their own, of which no record can be read.
+fn unreadable<R: Threads + Sync>(rt: &R, alloc: Global) -> Result<Snapshot, Fail> {
+    let mut lines = Vec::new(alloc);
+    add_load(&mut lines, b'd')?;
+    add_load(&mut lines, b'e')?;
+    lines.extend_from_slice(b"checkpoint\n")?;
+    let mut image = areas_of(&store_of(rt, alloc, lines.as_slice())?)?;
+    for page in 0..image.pages.len() / 8_192 {
+        let at = page.wrapping_mul(8_192);
+        if image.pages.as_slice().get(at) == Some(&1) {
+            image = spoiled(alloc, &image, at)?;
+        }
+    }
+    Ok(take(alloc, &mut host_of(alloc, image)?)?)
+}
+
+// Why a question isn't answered, if it isn't.
+fn error_of_one<R: Threads + Sync>(
+    rt: &R,
+    alloc: Global,
+    snapshot: &Snapshot,
+    line: &[u8],
+) -> Result<Option<AskError>, Fail> {
+    let questions = commands_of(alloc, line)?;
+    let Some(question) = questions.first() else {
+        return Ok(None);
+    };
+    Ok(ask_one(rt, alloc, snapshot, question).err())
+}
+
+// The same of several questions, by so many workers.
+fn error_of_all<R: Threads + Sync>(
+    rt: &R,
+    alloc: Global,
+    snapshot: &Snapshot,
+    lines: &[u8],
+    workers: u32,
+) -> Result<Option<AskError>, Fail> {
+    let questions = commands_of(alloc, lines)?;
+    Ok(ask_all(rt, alloc, snapshot, questions.as_slice(), workers, &NoGate).err())
+}
+
+// Where several questions aren't answered, the error is that of the first of these.
+#[test]
+fn the_first_error(rt: HostRuntime) -> Result<(), Fail> {
+    let alloc = rt.alloc();
+    let snapshot = unreadable(&rt, alloc)?;
+    let one = error_of_one(&rt, alloc, &snapshot, b"get d /0\n")?;
+    let other = error_of_one(&rt, alloc, &snapshot, b"get e /0\n")?;
+    assert!(rt; matches!(one, Some(AskError::Damaged { .. })));
+    assert!(rt; matches!(other, Some(AskError::Damaged { .. })));
+    assert!(rt; one != other);
+    for workers in 1..4 {
+        let found = error_of_all(
+            &rt,
+            alloc,
+            &snapshot,
+            b"names\nget d /0\nget e /0\n",
+            workers,
+        )?;
+        assert_eq!(rt; found, one);
+        let found = error_of_all(
+            &rt,
+            alloc,
+            &snapshot,
+            b"names\nget e /0\nget d /0\n",
+            workers,
+        )?;
+        assert_eq!(rt; found, other);
+    }
+    Ok(())
 }

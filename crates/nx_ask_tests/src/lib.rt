@@ -8,6 +8,8 @@ mod meeting;
 #[cfg(test)]
 mod rows;
 #[cfg(test)]
+mod runs;
+#[cfg(test)]
 mod sharing;
 #[cfg(test)]
 mod stores;

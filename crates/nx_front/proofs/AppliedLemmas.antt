@@ -1,43 +1,41 @@
 -- How groups are applied, from what was received and what was said then.
-use Rattle.std.proofs.Common.{◌≡◌, ◌≢◌, ◌⊎◌, inl, inr, ℕ, ◌+◌, ◌<◌, ◌≤◌, List, [], ◌∷◌, ◌++◌, take, drop, length, Option, None, Some, IsSome, Result, Ok, Err, refl, sym, ap, ap₂, ◌∙◌, subst, arith, length-append}
-use Rattle.std.specs.Prelude.{IfSome}
+use Rattle.std.proofs.Common.{◌≡◌, ◌⊎◌, inl, inr, ℕ, ◌<◌, ◌≤◌, List, [], ◌∷◌, ◌++◌, take, length, Option, None, Some, IsSome, Result, Ok, Err, refl, sym, ap, ap₂, ◌∙◌, subst, arith, length-append}
 use Rattle.nx_host.specs.declared.disk.Disk.{Ghosts}
-use Rattle.nx_host.specs.Disk.{Image, Beside, Rose}
+use Rattle.nx_host.specs.Disk.{Image}
 use Rattle.nx_host.specs.Host.{Takes, Appends, AppendsPrefix}
 use Rattle.nx_host.specs.Input.{most_input}
-use Rattle.nx_host.specs.Time.{Stood, Elapses, elapsed_then, elapsed_weaker}
-use Rattle.nx_host.specs.Still.{IsStill, IsSettled}
+use Rattle.nx_host.specs.Time.{Stood, elapsed_then, elapsed_weaker}
+use Rattle.nx_host.specs.Still.{IsStill}
 use Rattle.nx_host.specs.Phase.{GivesAlone}
 use Rattle.nx_host.proofs.DiskLemmas.{settled_kept}
-use Rattle.nx_host.proofs.OutputLemmas.{appends_then, takes_nothing}
-use Rattle.nx_replay.specs.Log.{Pages, Group, over, entry_pages, replay, HasMark, IsDense}
+use Rattle.nx_host.proofs.OutputLemmas.{appends_then}
+use Rattle.nx_replay.specs.Log.{Pages, Group, over, entry_pages, replay, IsDense}
 use Rattle.nx_replay.specs.Laws.{over_all}
-use Rattle.nx_replay.proofs.SettledLemmas.{some_of, is_some}
+use Rattle.nx_replay.proofs.SettledLemmas.{some_of}
 use Rattle.nx_holdings.proofs.DenseLemmas.{dense}
 use Rattle.nx_holdings.specs.declared.header.Header.{Header}
-use Rattle.nx_ship.specs.Stream.{group_in, IsGood, Begins, IsStream}
-use Rattle.nx_ship.specs.Next.{number_following, IsHeadedBy, IsAtNumber, AreNone, IsBase, MayComeTo, ComeInTurn, StayDense}
-use Rattle.nx_ship.specs.Sending.{HasWrongHeader, IsByFault}
-use Rattle.nx_ship.specs.Applying.{applied_text, ShowsApplied, AreIn, IsOutOfTurn, IsNoBase, IsNoGroup, EndsApplying, ShowsEnd, AppliesFrom, IsUnapplied, TakesAtMost, ReceivesStream}
+use Rattle.nx_ship.specs.Stream.{IsGood, Begins, IsStream}
+use Rattle.nx_ship.specs.Next.{IsAtNumber, AreNone, IsOpenFor, ComeInTurn, StayDense}
+use Rattle.nx_ship.specs.Applying.{applied_text, AreIn, IsOutOfTurn, IsNoGroup, EndsApplying, UnlessCut, ShowsEnd, IsUnapplied, IsApplyCause, TakesAtMost, ReceivesStream}
 use Rattle.nx_ship.specs.declared.error.ShipError.{ShipError}
 use Rattle.nx_ship.specs.declared.error.ShipError.TheVariants as error
 use Rattle.nx_ship.specs.Moments.{RefusesNothing}
-use Rattle.nx_ship.proofs.ReadingLemmas.{good-append, begins-append}
-use Rattle.nx_ship.proofs.MomentLemmas.{among, groups_in_turn_pass}
+use Rattle.nx_ship.proofs.ReadingLemmas.{good-append}
+use Rattle.nx_ship.proofs.MomentLemmas.{groups_in_turn_pass}
 use Rattle.nx_ship.proofs.RecoveryLemmas.{states_are_whole}
 use Rattle.nx_ship.proofs.EntryLemmas.{one_head, none_headed}
+use Rattle.nx_records.specs.Records.{HasHeader}
 use Rattle.nx_state.specs.State.{State}
-use Rattle.nx_state.specs.Stands.{Stands, Recovers}
+use Rattle.nx_state.specs.Stands.{Recovers}
 use Rattle.nx_filters.specs.declared.status.Status.{Status}
 use Rattle.nx_filters.specs.declared.status.Status.TheVariants.{Done, Usage, Refused, DiskFault, ReadFault, WriteFault, NoMemory, NotAStore, Damaged, TooMuch}
-use Rattle.nx_filters.specs.Outcome.{TakesFew, CountsGrow}
+use Rattle.nx_filters.specs.Outcome.{TakesFew}
 use Rattle.nx_filters.proofs.OutcomeLemmas.{rose_since, told_at_first}
-use Rattle.nx_store.specs.Store.{TakesNone}
-use Rattle.nx_front.specs.Init.{HasPage, SaysLine}
+use Rattle.nx_front.specs.Init.{HasPage, IsUntroubled, SaysLine}
 use Rattle.nx_front.specs.Serving.{IsCalm, EndsWell}
-use Rattle.nx_front.specs.Applied.{repeat_line, gap_line, base_line, stream_line, IsTurnedAway, Repeated, Early, NoBase, NoGroup, ShowsRefusal, ShowsTaken, TurnsAway, EndsTaking, ShowsGroups, TakesGroups, IsUntaken, IsApplyingCaused, ReceivesGroups, StandBehindEach, CompletesApplying, ApplyHoldsTogether}
+use Rattle.nx_front.specs.Applied.{repeat_line, gap_line, base_line, stream_line, IsTurnedAway, Repeated, Early, NoBase, NoGroup, ShowsTaken, TurnsAway, EndsTaking, EndsApplied, ShowsGroups, IsUntaken, IsApplyingCaused, ReceivesGroups, StandBehindEach, CompletesApplying, ApplyHoldsTogether}
 use Rattle.nx_front.specs.Endings.{applying_status, turned_away_line}
-use Rattle.nx_front.proofs.GeneratingLemmas.{still_takes, gives_takes}
+use Rattle.nx_front.proofs.GeneratingLemmas.{still_takes}
 
 -- What came of the call, as a status:
 
@@ -64,58 +62,90 @@ untaken was (Err (error.Gap number last)) why = absurd why
 untaken was (Err (error.Base number)) why = absurd why
 untaken was (Err (error.Stream offset)) why = absurd why
 
-module _ {D : Type 0} (d : Ghosts D) (a b : D) where
-  ends_taking : (start : Pages) (taken : List ℕ) (groups : List Group) (rest : List ℕ) (result : Result (Unit {0}) ShipError) → EndsApplying d start taken groups rest result a b →
-      EndsTaking d start taken groups rest (applying_status result) a b
-  ends_taking start taken groups rest (Ok done) ends = ends
-  ends_taking start taken groups rest (Err error.Read) ends = ends
-  ends_taking start taken groups rest (Err error.TooMuch) ends = ends
-  ends_taking start taken groups rest (Err error.NotAStore) ends = ends
-  ends_taking start taken groups rest (Err (error.Damaged page)) ends = ends
-  ends_taking start taken groups rest (Err error.Disk) ends = tt
-  ends_taking start taken groups rest (Err error.Write) ends = tt
-  ends_taking start taken groups rest (Err error.Memory) ends = tt
-  ends_taking start taken groups rest (Err (error.NoGroup from last)) ends = tt
-  ends_taking start taken groups rest (Err (error.Repeat number last)) ends = tt
-  ends_taking start taken groups rest (Err (error.Gap number last)) ends = tt
-  ends_taking start taken groups rest (Err (error.Base number)) ends = tt
-  ends_taking start taken groups rest (Err (error.Stream offset)) ends = tt
+ends_taking : (start : Pages) (taken : List ℕ) (groups : List Group) (rest : List ℕ) (left : Option (List ℕ)) (result : Result (Unit {0}) ShipError) → turned_away_line result ≡ None →
+    EndsApplying start taken groups rest left result → EndsTaking start taken groups rest left (applying_status result)
+ends_taking start taken groups rest left (Ok done) none ends = ends
+ends_taking start taken groups rest left (Err error.Read) none ends = ends
+ends_taking start taken groups rest left (Err error.TooMuch) none ends = ends
+ends_taking start taken groups rest left (Err error.NotAStore) none ends = ends
+ends_taking start taken groups rest left (Err (error.Damaged page)) none ends = ends
+ends_taking start taken groups rest left (Err error.Disk) none ends = tt
+ends_taking start taken groups rest left (Err error.Write) none ends = tt
+ends_taking start taken groups rest left (Err error.Memory) none ends = tt
+ends_taking start taken groups rest left (Err (error.NoGroup from last)) none ends = tt
+ends_taking start taken groups rest left (Err (error.Repeat number last)) none ends = tt
+ends_taking start taken groups rest left (Err (error.Gap number last)) none ends = tt
+ends_taking start taken groups rest left (Err (error.Base number)) none ends = tt
+ends_taking start taken groups rest left (Err (error.Stream offset)) none ends = tt
 
-  applying_raised : (result : Result (Unit {0}) ShipError) → IsByFault d result a b → IsApplyingCaused d (applying_status result) a b
-  applying_raised (Ok done) cause = tt
-  applying_raised (Err error.NotAStore) cause = tt
-  applying_raised (Err (error.Damaged page)) cause = tt
+module _ {D : Type 0} (d : Ghosts D) (a b : D) where
+  ends_in : (start : Pages) (groups : List Group) (rest : List ℕ) (taken : List ℕ) (left : Option (List ℕ)) (result : Result (Unit {0}) ShipError) → EndsApplying start taken groups rest left result →
+      UnlessCut result (AreIn d start groups a b) → EndsApplied d start groups rest (applying_status result) a b
+  ends_in start groups rest taken left (Ok done) why all = all
+  ends_in start groups rest taken left (Err error.Read) why all = all
+  ends_in start groups rest taken left (Err error.TooMuch) why all = all
+  ends_in start groups rest taken left (Err error.NotAStore) why all = absurd why
+  ends_in start groups rest taken left (Err (error.Damaged page)) why all = absurd why
+  ends_in start groups rest taken left (Err error.Disk) why all = tt
+  ends_in start groups rest taken left (Err error.Write) why all = tt
+  ends_in start groups rest taken left (Err error.Memory) why all = tt
+  ends_in start groups rest taken left (Err (error.NoGroup from last)) why all = tt
+  ends_in start groups rest taken left (Err (error.Repeat number last)) why all = tt
+  ends_in start groups rest taken left (Err (error.Gap number last)) why all = tt
+  ends_in start groups rest taken left (Err (error.Base number)) why all = tt
+  ends_in start groups rest taken left (Err (error.Stream offset)) why all = tt
+
+  applying_raised : (result : Result (Unit {0}) ShipError) → IsApplyCause d result a b → IsApplyingCaused d (applying_status result) a b
+  applying_raised (Ok done) cause = cause
+  applying_raised (Err error.NotAStore) cause = cause
+  applying_raised (Err (error.Damaged page)) cause = cause
   applying_raised (Err error.Disk) cause = cause
   applying_raised (Err error.Read) cause = cause
   applying_raised (Err error.Write) cause = cause
   applying_raised (Err error.Memory) cause = tt
-  applying_raised (Err error.TooMuch) cause = tt
+  applying_raised (Err error.TooMuch) cause = cause
   applying_raised (Err (error.NoGroup from last)) cause = tt
   applying_raised (Err (error.Repeat number last)) cause = tt
   applying_raised (Err (error.Gap number last)) cause = tt
   applying_raised (Err (error.Base number)) cause = tt
   applying_raised (Err (error.Stream offset)) cause = tt
 
-  -- why a group is turned away, and all before it are in
-  turned : (start : Pages) (taken : List ℕ) (groups : List Group) (rest : List ℕ) (result : Result (Unit {0}) ShipError) (line : List ℕ) → turned_away_line result ≡ Some line →
-      EndsApplying d start taken groups rest result a b → IsTurnedAway start groups rest (d.beside b).input line × AreIn d start groups a b
-  turned start taken groups rest (Err (error.Repeat number last)) line is (out, low, are) =
-      (subst (λ (l : List ℕ). IsTurnedAway start groups rest (d.beside b).input l) (let same : repeat_line number last ≡ line = cc is in same) (Repeated number last out low), are)
-  turned start taken groups rest (Err (error.Gap number last)) line is (out, high, are) =
-      (subst (λ (l : List ℕ). IsTurnedAway start groups rest (d.beside b).input l) (let same : gap_line number last ≡ line = cc is in same) (Early number last out high), are)
-  turned start taken groups rest (Err (error.Base number)) line is (lack, are) =
-      (subst (λ (l : List ℕ). IsTurnedAway start groups rest (d.beside b).input l) (let same : base_line number ≡ line = cc is in same) (NoBase number lack), are)
-  turned start taken groups rest (Err (error.Stream offset)) line is (lack, are) =
-      (subst (λ (l : List ℕ). IsTurnedAway start groups rest (d.beside b).input l) (let same : stream_line offset ≡ line = cc is in same) (NoGroup offset lack), are)
-  turned start taken groups rest (Ok done) line is ends = absurd (cc is)
-  turned start taken groups rest (Err error.NotAStore) line is ends = absurd (cc is)
-  turned start taken groups rest (Err (error.Damaged page)) line is ends = absurd (cc is)
-  turned start taken groups rest (Err error.Disk) line is ends = absurd (cc is)
-  turned start taken groups rest (Err error.Read) line is ends = absurd (cc is)
-  turned start taken groups rest (Err error.Write) line is ends = absurd (cc is)
-  turned start taken groups rest (Err error.Memory) line is ends = absurd (cc is)
-  turned start taken groups rest (Err error.TooMuch) line is ends = absurd (cc is)
-  turned start taken groups rest (Err (error.NoGroup from last)) line is ends = absurd (cc is)
+-- why a group is turned away
+turned : (start : Pages) (taken : List ℕ) (groups : List Group) (rest : List ℕ) (left : Option (List ℕ)) (result : Result (Unit {0}) ShipError) (line : List ℕ) → turned_away_line result ≡ Some line →
+    EndsApplying start taken groups rest left result → IsTurnedAway start groups rest left line
+turned start taken groups rest left (Err (error.Repeat number last)) line is (out, low) =
+    subst (λ (l : List ℕ). IsTurnedAway start groups rest left l) (let same : repeat_line number last ≡ line = cc is in same) (Repeated number last out low)
+turned start taken groups rest left (Err (error.Gap number last)) line is (out, high) =
+    subst (λ (l : List ℕ). IsTurnedAway start groups rest left l) (let same : gap_line number last ≡ line = cc is in same) (Early number last out high)
+turned start taken groups rest left (Err (error.Base number)) line is lack =
+    subst (λ (l : List ℕ). IsTurnedAway start groups rest left l) (let same : base_line number ≡ line = cc is in same) (NoBase number lack)
+turned start taken groups rest left (Err (error.Stream offset)) line is lack =
+    subst (λ (l : List ℕ). IsTurnedAway start groups rest left l) (let same : stream_line offset ≡ line = cc is in same) (NoGroup offset lack)
+turned start taken groups rest left (Ok done) line is ends = absurd (cc is)
+turned start taken groups rest left (Err error.NotAStore) line is ends = absurd (cc is)
+turned start taken groups rest left (Err (error.Damaged page)) line is ends = absurd (cc is)
+turned start taken groups rest left (Err error.Disk) line is ends = absurd (cc is)
+turned start taken groups rest left (Err error.Read) line is ends = absurd (cc is)
+turned start taken groups rest left (Err error.Write) line is ends = absurd (cc is)
+turned start taken groups rest left (Err error.Memory) line is ends = absurd (cc is)
+turned start taken groups rest left (Err error.TooMuch) line is ends = absurd (cc is)
+turned start taken groups rest left (Err (error.NoGroup from last)) line is ends = absurd (cc is)
+
+-- ... and all groups before it are in
+turned_in : (result : Result (Unit {0}) ShipError) (line : List ℕ) (In : Type 0) → turned_away_line result ≡ Some line → UnlessCut result In → In
+turned_in (Err (error.Repeat number last)) line In is all = all
+turned_in (Err (error.Gap number last)) line In is all = all
+turned_in (Err (error.Base number)) line In is all = all
+turned_in (Err (error.Stream offset)) line In is all = all
+turned_in (Ok done) line In is all = absurd (cc is)
+turned_in (Err error.NotAStore) line In is all = absurd (cc is)
+turned_in (Err (error.Damaged page)) line In is all = absurd (cc is)
+turned_in (Err error.Disk) line In is all = absurd (cc is)
+turned_in (Err error.Read) line In is all = absurd (cc is)
+turned_in (Err error.Write) line In is all = absurd (cc is)
+turned_in (Err error.Memory) line In is all = absurd (cc is)
+turned_in (Err error.TooMuch) line In is all = absurd (cc is)
+turned_in (Err (error.NoGroup from last)) line In is all = absurd (cc is)
 
 -- then something was taken
 not_untaken : (was : Image) (result : Result (Unit {0}) ShipError) (line : List ℕ) → turned_away_line result ≡ Some line → IsUnapplied was result → ⊥
@@ -136,9 +166,11 @@ not_untaken was (Err (error.Stream offset)) line is why = why
 module _ {D : Type 0} {d : Ghosts D} {a b : D} where
   -- what came of the call is this status
   receives_by : (result : Result (Unit {0}) ShipError) (status : Status) →
-      ((start : Pages) (taken : List ℕ) (groups : List Group) (rest : List ℕ) → EndsApplying d start taken groups rest result a b → EndsTaking d start taken groups rest status a b) →
-      ((was : Image) → IsUnapplied was result → IsUntaken was status) → (IsByFault d result a b → IsApplyingCaused d status a b) → ReceivesStream d result a b → ReceivesGroups d status a b
-  receives_by result status ends_as untaken_as raised_as receives = record {
+      ((start : Pages) (taken : List ℕ) (groups : List Group) (rest : List ℕ) → EndsApplying start taken groups rest (d.beside b).input result → EndsTaking start taken groups rest (d.beside b).input status) →
+      ((start : Pages) (taken : List ℕ) (groups : List Group) (rest : List ℕ) → EndsApplying start taken groups rest (d.beside b).input result → UnlessCut result (AreIn d start groups a b) →
+      EndsApplied d start groups rest status a b) →
+      ((was : Image) → IsUnapplied was result → IsUntaken was status) → (IsApplyCause d result a b → IsApplyingCaused d status a b) → ReceivesStream d result a b → ReceivesGroups d status a b
+  receives_by result status ends_as in_as untaken_as raised_as receives = record {
     from = λ was settled told. elim (receives.from was settled told) [
       | inl from ↦ inl (record {
         opened = from.opened;
@@ -148,12 +180,13 @@ module _ {D : Type 0} {d : Ghosts D} {a b : D} where
         groups = (from.applies).groups;
         rest = (from.applies).rest;
         begins = (from.applies).begins;
+        in_turn = (from.applies).in_turn;
+        why = ends_as (replay was) from.taken (from.applies).groups (from.applies).rest (from.applies).why;
         shows = λ whole.
             let shows = (from.applies).shows whole told in
             record {
-              in_turn = shows.in_turn;
               time = elapsed_weaker shows.time (λ s h. inl h);
-              ends = ends_as (replay was) from.taken (from.applies).groups (from.applies).rest shows.ends;
+              all_in = in_as (replay was) from.taken (from.applies).groups (from.applies).rest (from.applies).why shows.all_in;
             };
       })
       | inr (why, still) ↦ inr (untaken_as was why, still)
@@ -166,13 +199,14 @@ module _ {D : Type 0} {d : Ghosts D} {a b : D} where
   }
 
   -- groups were received
-  pub receives_as : (result : Result (Unit {0}) ShipError) → ReceivesStream d result a b → ReceivesGroups d (applying_status result) a b
-  receives_as result receives =
-      receives_by result (applying_status result) (λ start taken groups rest ends. ends_taking d a b start taken groups rest result ends) (λ was why. untaken was result why) (applying_raised d a b result) receives
+  pub receives_as : (result : Result (Unit {0}) ShipError) → turned_away_line result ≡ None → ReceivesStream d result a b → ReceivesGroups d (applying_status result) a b
+  receives_as result none receives =
+      receives_by result (applying_status result) (λ start taken groups rest ends. ends_taking start taken groups rest (d.beside b).input result none ends)
+      (λ start taken groups rest ends all. ends_in d a b start groups rest taken (d.beside b).input result ends all) (λ was why. untaken was result why) (applying_raised d a b result) receives
 
   -- ... and there was no memory to say why one wasn't applied
   pub receives_starved : (result : Result (Unit {0}) ShipError) → ReceivesStream d result a b → ReceivesGroups d NoMemory a b
-  receives_starved result receives = receives_by result NoMemory (λ start taken groups rest ends. tt) (λ was why. tt) (λ cause. tt) receives
+  receives_starved result receives = receives_by result NoMemory (λ start taken groups rest ends. tt) (λ start taken groups rest ends all. tt) (λ was why. tt) (λ cause. tt) receives
 
   -- nothing is done
   pub receives_nothing : IsStill d a b → ReceivesGroups d NoMemory a b
@@ -194,41 +228,47 @@ module _ {D : Type 0} {d : Ghosts D} {a b : D} where
   pub apply_not_usage : ReceivesGroups d Usage a b → ⊥
   apply_not_usage receives = receives.cause
 
+module _ {D : Type 0} {d : Ghosts D} {b c : D} (result : Result (Unit {0}) ShipError) (line : List ℕ) (is : turned_away_line result ≡ Some line) (gives : GivesAlone d line b c) where
+  why_away : (start : Pages) (taken : List ℕ) (groups : List Group) (rest : List ℕ) → EndsApplying start taken groups rest (d.beside b).input result → IsTurnedAway start groups rest (d.beside c).input line
+  why_away start taken groups rest ends =
+      subst (λ (left : Option (List ℕ)). IsTurnedAway start groups rest left line) (sym gives.input_stays) (turned start taken groups rest (d.beside b).input result line is ends)
+
+  ends_away : (start : Pages) (taken : List ℕ) (groups : List Group) (rest : List ℕ) → EndsApplying start taken groups rest (d.beside b).input result → (status : Status) →
+      SaysLine line Refused status (d.beside b) (d.beside c) → EndsTaking start taken groups rest (d.beside c).input status
+  ends_away start taken groups rest ends status (inl (same, out)) = subst (λ (s : Status). EndsTaking start taken groups rest (d.beside c).input s) (sym same) (line, why_away start taken groups rest ends)
+  ends_away start taken groups rest ends status (inr (same, fails)) = subst (λ (s : Status). EndsTaking start taken groups rest (d.beside c).input s) (sym same) tt
+
 module _ {D : Type 0} {d : Ghosts D} {a b c : D} (result : Result (Unit {0}) ShipError) (line : List ℕ) (is : turned_away_line result ≡ Some line) (gives : GivesAlone d line b c) where
   -- behind the groups the line was given
-  module _ (start : Pages) (taken : List ℕ) (groups : List Group) (rest : List ℕ) (shows : ShowsEnd d start taken groups rest result a b) where
-    why_away : IsTurnedAway start groups rest (d.beside c).input line
-    why_away =
-        subst (λ (left : Option (List ℕ)). IsTurnedAway start groups rest left line) (sym gives.input_stays) (turned d a b start taken groups rest result line is shows.ends).0
-
+  module _ (start : Pages) (groups : List Group) (rest : List ℕ) (away : IsTurnedAway start groups rest (d.beside c).input line) (shows : ShowsEnd d start groups result a b) where
     all_in : AreIn d start groups a b
-    all_in = (turned d a b start taken groups rest result line is shows.ends).1
+    all_in = turned_in result line (AreIn d start groups a b) is shows.all_in
 
     line_shown : (s : Stood) → AppendsPrefix line (d.beside b).output s.output × d.may_leave b s.image → ShowsTaken (d.beside a).output start groups rest (d.beside c).input s
     line_shown s (prefix, left) =
         let (n, out) = so_many line (d.beside b).output s.output prefix in
         let image : replay s.image ≡ over_all start groups = ap replay ((all_in.settled).only s.image left) ∙ all_in.is in
-        inr (line, why_away, ((n, appends_then (applied_text groups) (take n line) (d.beside a).output (d.beside b).output s.output all_in.out out), image))
+        inr (line, away, ((n, appends_then (applied_text groups) (take n line) (d.beside a).output (d.beside b).output s.output all_in.out out), image))
 
     turns_away : IsSome (d.contents c) → Appends line (d.beside b).output (d.beside c).output → TurnsAway d start groups rest a c
     turns_away told out = record {
       line = line;
-      why = why_away;
+      why = away;
       out = appends_then (applied_text groups) line (d.beside a).output (d.beside b).output (d.beside c).output all_in.out out;
       image = all_in.image;
       settled = settled_kept gives.areas.contents_stay told (λ i left. (gives.areas.images_stay i).0 left) all_in.settled;
       is = all_in.is;
+      logged = all_in.logged;
     }
 
-    ends_away : IsSome (d.contents c) → (status : Status) → SaysLine line Refused status (d.beside b) (d.beside c) → EndsTaking d start taken groups rest status a c
-    ends_away told status (inl (is, out)) = subst (λ (s : Status). EndsTaking d start taken groups rest s a c) (sym is) (turns_away told out)
-    ends_away told status (inr (is, fails)) = subst (λ (s : Status). EndsTaking d start taken groups rest s a c) (sym is) tt
+    in_away : IsSome (d.contents c) → (status : Status) → SaysLine line Refused status (d.beside b) (d.beside c) → EndsApplied d start groups rest status a c
+    in_away told status (inl (same, out)) = subst (λ (s : Status). EndsApplied d start groups rest s a c) (sym same) (turns_away told out)
+    in_away told status (inr (same, fails)) = subst (λ (s : Status). EndsApplied d start groups rest s a c) (sym same) tt
 
-    shows_away : IsSome (d.contents c) → (status : Status) → SaysLine line Refused status (d.beside b) (d.beside c) → ShowsGroups d start taken groups rest status a c
+    shows_away : IsSome (d.contents c) → (status : Status) → SaysLine line Refused status (d.beside b) (d.beside c) → ShowsGroups d start groups rest status a c
     shows_away told status says = record {
-      in_turn = shows.in_turn;
       time = elapsed_then {P = ShowsTaken (d.beside a).output start groups rest (d.beside c).input} (elapsed_weaker shows.time (λ s h. inl h)) gives.areas.time line_shown;
-      ends = ends_away told status says;
+      all_in = in_away told status says;
     }
 
   away_cause : ReceivesStream d result a b → (status : Status) → SaysLine line Refused status (d.beside b) (d.beside c) → IsApplyingCaused d status a c
@@ -258,7 +298,11 @@ module _ {D : Type 0} {d : Ghosts D} {a b c : D} (result : Result (Unit {0}) Shi
             groups = (from.applies).groups;
             rest = (from.applies).rest;
             begins = (from.applies).begins;
-            shows = λ whole. shows_away (replay was) from.taken (from.applies).groups (from.applies).rest ((from.applies).shows whole (told_there told)) told status says;
+            in_turn = (from.applies).in_turn;
+            why = ends_away result line is gives (replay was) from.taken (from.applies).groups (from.applies).rest (from.applies).why status says;
+            shows = λ whole.
+                shows_away (replay was) (from.applies).groups (from.applies).rest (why_away result line is gives (replay was) from.taken (from.applies).groups (from.applies).rest (from.applies).why)
+                ((from.applies).shows whole (told_there told)) told status says;
           })
           | inr (why, still) ↦ absurd (not_untaken was result line is why)
         ];
@@ -275,11 +319,6 @@ module _ {D : Type 0} {d : Ghosts D} {a b c : D} (result : Result (Unit {0}) Shi
       }
 
 -- Streams that are applied to the end:
-
-first_dense : (start : Pages) (mine more : List Group) → StayDense start (mine ++ more) → StayDense start mine
-first_dense start [] [] whole = whole
-first_dense start [] (g ∷ more) whole = whole.0
-first_dense start (h ∷ mine) more whole = (whole.0, first_dense (over (entry_pages h.entries) start) mine more whole.1)
 
 -- pages in a state stay dense, and no pages are
 pub stay_dense : (start : Pages) (groups : List Group) → IsDense start → StandBehindEach start groups → StayDense start groups
@@ -306,7 +345,7 @@ none_good : IsGood [] → ⊥
 none_good good = let whole = good.whole in omega (arith, whole)
 
 module _ {D : Type 0} {d : Ghosts D} {a b : D} (was : Image) (input : List ℕ) (groups : List Group) (calm : IsCalm d was input a b) (whole : Begins groups input [])
-    (turns : ComeInTurn (replay was) groups) (dense_all : StayDense (replay was) groups) where
+    (turns : ComeInTurn (replay was) groups) where
   -- so many bytes aren't too many
   too_many : (taken left : List ℕ) → input ≡ taken ++ left → length taken ≡ most_input → ⊥
   too_many taken left same long =
@@ -315,35 +354,28 @@ module _ {D : Type 0} {d : Ghosts D} {a b : D} (was : Image) (input : List ℕ) 
       omega (arith, parts, few, long, length-append taken left)
 
   module _ (taken left rest : List ℕ) (mine : List Group) (same : input ≡ taken ++ left) (is_left : (d.beside b).input ≡ Some left) (begins : Begins mine taken rest) where
-    taken_ends : (status : Status) → ShowsGroups d (replay was) taken mine rest status a b → IsApplyingCaused d status a b → EndsWell status
+    taken_ends : (status : Status) → EndsTaking (replay was) taken mine rest (d.beside b).input status → IsApplyingCaused d status a b → EndsWell status
     taken_ends Done shows cause = tt
     taken_ends NoMemory shows cause = tt
     taken_ends DiskFault shows cause = absurd (calm.disk cause)
-    taken_ends ReadFault shows cause = absurd (calm.read cause)
+    taken_ends ReadFault shows cause = absurd (calm.read cause.0)
     taken_ends WriteFault shows cause = absurd (calm.written cause)
-    taken_ends TooMuch shows cause = absurd (too_many taken left same (shows.ends).1)
-    taken_ends NotAStore shows cause = absurd shows.ends
-    taken_ends (Damaged page) shows cause = absurd shows.ends
+    taken_ends TooMuch shows cause = absurd (too_many taken left same shows.1)
+    taken_ends NotAStore shows cause = absurd shows
+    taken_ends (Damaged page) shows cause = absurd shows
     taken_ends Usage shows cause = absurd cause
-    taken_ends Refused shows cause =
-        let away = shows.ends in
+    taken_ends Refused (line, away) cause =
         let stream : IsStream (taken ++ left) groups [] = record { begins = subst (λ (bytes : List ℕ). Begins groups bytes []) same whole; ends = none_good } in
         absurd (
-        not_away (replay was) mine rest left away.line (groups_in_turn_pass (replay was) taken left groups mine rest stream turns begins)
-        (subst (λ (o : Option (List ℕ)). IsTurnedAway (replay was) mine rest o away.line) is_left away.why)
+        not_away (replay was) mine rest left line (groups_in_turn_pass (replay was) taken left groups mine rest stream turns begins)
+        (subst (λ (o : Option (List ℕ)). IsTurnedAway (replay was) mine rest o line) is_left away)
         )
-
-    first_are_dense : StayDense (replay was) mine
-    first_are_dense =
-        let all : Begins groups (taken ++ left) [] = subst (λ (bytes : List ℕ). Begins groups bytes []) same whole in
-        let (more, is, behind) = among mine groups (taken ++ left) (rest ++ left) (begins-append mine taken rest left begins) all none_good in
-        first_dense (replay was) mine more (subst (λ (gs : List Group). StayDense (replay was) gs) is dense_all)
 
   untaken_ends : (held : Option State) → Recovers was held → (status : Status) → IsUntaken was status → IsApplyingCaused d status a b → EndsWell status
   untaken_ends None none NotAStore (no_header, (p, some)) cause = absurd (let gone : IsSome {T = List ℕ} None = subst (λ (o : Option (List ℕ)). IsSome o) (none p) some in cc gone)
   untaken_ends (Some state) stands NotAStore (no_header, page) cause = absurd (no_header (states_are_whole.mark was state stands))
-  untaken_ends None none (Damaged page) wrong cause = absurd (let gone : None ≡ Some wrong.bytes = sym (none 0) ∙ wrong.there in cc gone)
-  untaken_ends (Some state) stands (Damaged page) wrong cause = absurd (states_are_whole.header was state page stands wrong)
+  untaken_ends None none (Damaged page) (mark, wrong) cause = absurd (let gone : None ≡ Some wrong.bytes = sym (none 0) ∙ wrong.there in cc gone)
+  untaken_ends (Some state) stands (Damaged page) (mark, wrong) cause = absurd (states_are_whole.header was state page stands wrong)
   untaken_ends held recovers DiskFault why cause = absurd (calm.disk cause)
   untaken_ends held recovers NoMemory why cause = tt
   untaken_ends held recovers Done why cause = absurd why
@@ -359,18 +391,43 @@ module _ {D : Type 0} {d : Ghosts D} {a b : D} (was : Image) (input : List ℕ) 
         let (left, is_left) = some_of (d.beside b).input calm.input_told in
         let had : (d.beside a).input ≡ Some (takes.taken ++ left) = subst (λ (o : Option (List ℕ)). Takes takes.taken (d.beside a).input o) is_left takes.takes in
         let same : input ≡ takes.taken ++ left = some_same (sym calm.input_is ∙ had) in
-        taken_ends takes.taken left takes.rest takes.groups same is_left takes.begins status
-        (takes.shows (first_are_dense takes.taken left takes.rest takes.groups same is_left takes.begins)) receives.cause
+        taken_ends takes.taken left takes.rest takes.groups same is_left takes.begins status takes.why receives.cause
     | inr (why, still) ↦ untaken_ends held recovers status why receives.cause
   ]
     where
       some_same : {x y : List ℕ} → ◌≡◌ {A = Option (List ℕ)} (Some x) (Some y) → x ≡ y
       some_same is = cc
 
+-- a disk with pages and without a store
+module _ {D : Type 0} {d : Ghosts D} {a b : D} (was : Image) (calm : IsUntroubled d was a b) (none : HasHeader was → ⊥) (page : HasPage was) where
+  not_open : IsOpenFor (replay was) → ⊥
+  not_open (inl (last, (header, headed, is))) = none (states_are_whole.headed (replay was) header headed)
+  not_open (inr nothing) = let (p, some) = page in let gone : IsSome {T = List ℕ} None = subst (λ (o : Option (List ℕ)). IsSome o) (nothing p) some in cc gone
+
+  untaken_without : (status : Status) → IsUntaken was status → IsApplyingCaused d status a b → (status ≡ NotAStore) ⊎ (status ≡ NoMemory)
+  untaken_without NotAStore why cause = inl refl
+  untaken_without NoMemory why cause = inr refl
+  untaken_without (Damaged page) why cause = absurd (none why.0)
+  untaken_without DiskFault why cause = absurd (calm.disk cause)
+  untaken_without Done why cause = absurd why
+  untaken_without Usage why cause = absurd why
+  untaken_without Refused why cause = absurd why
+  untaken_without ReadFault why cause = absurd why
+  untaken_without WriteFault why cause = absurd why
+  untaken_without TooMuch why cause = absurd why
+
+  received_without : (status : Status) → ReceivesGroups d status a b → (status ≡ NotAStore) ⊎ (status ≡ NoMemory)
+  received_without status receives = elim (receives.from was calm.settled calm.still_told) [
+    | inl takes ↦ absurd (not_open takes.opened)
+    | inr (why, still) ↦ untaken_without status why receives.cause
+  ]
+
 -- how such a run ends where all is well
 pub apply_completes : {D : Type 0} {d : Ghosts D} {a b : D} (status : Status) → ReceivesGroups d status a b → CompletesApplying d status a b
-apply_completes status receives was held input groups calm recovers whole turns stand =
-    received_ends was input groups calm whole turns (stay_dense (replay was) groups (states_are_whole.dense was held recovers) stand) held recovers status receives
+apply_completes status receives = record {
+  store = λ was held input groups calm recovers whole turns stand. received_ends was input groups calm whole turns held recovers status receives;
+  no_store = λ was calm none page. received_without was calm none page status receives;
+}
 
 -- What isn't applied is turned away for one reason:
 

@@ -16,8 +16,8 @@ use Rattle.nx_ship.specs.declared.error.Start.{Start}
 use Rattle.nx_ship.specs.declared.error.Start.TheVariants.{All, Number}
 use Rattle.nx_words.specs.Operands.{is_operand, are_operands}
 use Rattle.nx_front.specs.declared.words.CommandLine.{CommandLine}
-use Rattle.nx_front.specs.declared.words.CommandLine.TheVariants.{Tidy, Run, Plan, Verify, Init, Gen, Check, Find, Ship, Apply}
-use Rattle.nx_front.specs.CommandLine.{is_store, is_named_store, is_within, is_weight_limit, has_plain_start, is_group_number, start_said, is_target, is_tolerance, is_page_limit, is_seed, is_element_count, settings_said, command_of_two, command_of_ship, command_of_limit, command_of_three, command_of_four, command_of_init, command_line_of, command_line}
+use Rattle.nx_front.specs.declared.words.CommandLine.TheVariants.{Tidy, Run, Plan, Verify, Init, Gen, Check, Find, Ship, Apply, Ask}
+use Rattle.nx_front.specs.CommandLine.{is_store, is_named_store, is_within, is_weight_limit, has_plain_start, is_group_number, start_said, is_target, is_tolerance, is_page_limit, is_seed, is_element_count, settings_said, command_of_two, command_of_ship, are_workers, command_of_ask, command_of_limit, command_of_three, command_of_four, command_of_init, command_line_of, command_line}
 
 both : (a b : Bool) → (a && b) ≡ true → (a ≡ true) × (b ≡ true)
 both true b e = (refl, e)
@@ -118,6 +118,15 @@ of_ship store command word line name is = go (is_named_store store) refl is
         let (start, are) = mapped_start (start_said word) line said in
         operands store command (word ∷ []) (named_is store named) (command_is command (codes "ship") refl name) (more word [] (of_start word start are) refl)
 
+of_ask : (store command word : List ℕ) (line : CommandLine) → bytes_eq command (codes "ask") ≡ true → command_of_ask store word ≡ Some line
+    → are_operands (store ∷ command ∷ word ∷ []) ≡ true
+of_ask store command word line name is =
+    either (is_named_store store && are_workers word) (Some (Ask (value_of word))) None line
+    (λ t.
+    let (s, w) = both (is_named_store store) (are_workers word) t in
+    operands store command (word ∷ []) (named_is store s) (command_is command (codes "ask") refl name) (more word [] (within_is 1 64 word w) refl))
+    (nothing line) is
+
 of_limit : (store command limit : List ℕ) (line : CommandLine) → command_of_limit store command limit ≡ Some line → are_operands (store ∷ command ∷ limit ∷ []) ≡ true
 of_limit store command limit line is =
     let said : (known : List ℕ) → is_operand known ≡ true → (is_store store && bytes_eq command known && is_weight_limit limit) ≡ true
@@ -132,12 +141,14 @@ of_limit store command limit line is =
     (said (codes "verify") refl) (nothing line)) is
 
 of_three : (store command word : List ℕ) (line : CommandLine) → command_of_three store command word ≡ Some line → are_operands (store ∷ command ∷ word ∷ []) ≡ true
-of_three store command word line is = go (bytes_eq command (codes "ship")) refl is
+of_three store command word line is = go (bytes_eq command (codes "ship")) (bytes_eq command (codes "ask")) refl refl is
   where
-    go : (b : Bool) → bytes_eq command (codes "ship") ≡ b → (if b then command_of_ship store word else command_of_limit store command word) ≡ Some line
+    go : (b c : Bool) → bytes_eq command (codes "ship") ≡ b → bytes_eq command (codes "ask") ≡ c
+        → (if b then command_of_ship store word else if c then command_of_ask store word else command_of_limit store command word) ≡ Some line
         → are_operands (store ∷ command ∷ word ∷ []) ≡ true
-    go true name said = of_ship store command word line name said
-    go false name said = of_limit store command word line said
+    go true c name other said = of_ship store command word line name said
+    go false true not_name name said = of_ask store command word line name said
+    go false false not_name other said = of_limit store command word line said
 
 of_four : (store command seed number : List ℕ) (line : CommandLine) → command_of_four store command seed number ≡ Some line
     → are_operands (store ∷ command ∷ seed ∷ number ∷ []) ≡ true

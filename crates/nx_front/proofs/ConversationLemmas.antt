@@ -70,12 +70,12 @@ given_kept {taken = taken} {first = first} {now = now} next given kept = record 
 }
 
 -- the commands that a script gave are the first ones
-first_given : (script : Script) (taken : List ℕ) (commands : List Command) (first now : Option (List ℕ)) → HasGivenIn script taken commands first now → AreFirst taken commands now
+pub first_given : (script : Script) (taken : List ℕ) (commands : List Command) (first now : Option (List ℕ)) → HasGivenIn script taken commands first now → AreFirst taken commands now
 first_given script taken commands first None given = tt
 first_given script taken commands first (Some left) given = given_prefix script taken left commands first given
 
 -- no more bytes were taken than a run takes
-few_given : (script : Script) (taken : List ℕ) (commands : List Command) (first now : Option (List ℕ)) → HasGivenIn script taken commands first now → length taken ≤ most_input
+pub few_given : (script : Script) (taken : List ℕ) (commands : List Command) (first now : Option (List ℕ)) → HasGivenIn script taken commands first now → length taken ≤ most_input
 few_given script taken commands first now given =
     let counted : script.input.taken ≡ length taken = given.given.counted in let few : script.input.taken ≤ most_input = script.input.few in let e : length taken ≤ most_input = omega arith in e
 
@@ -100,13 +100,13 @@ no_last [] last is = cc is
 no_last (b ∷ before) last is = cc is
 
 -- the first of the first commands
-first_of : (taken : List ℕ) (commands rest all : List Command) (now : Option (List ℕ)) → commands ++ rest ≡ all → AreFirst taken all now → AreFirst taken commands now
+pub first_of : (taken : List ℕ) (commands rest all : List Command) (now : Option (List ℕ)) → commands ++ rest ≡ all → AreFirst taken all now → AreFirst taken commands now
 first_of taken commands rest all None is first = tt
 first_of taken commands rest all (Some left) is (others, are) =
     (rest ++ others, subst (λ (cs : List Command). AreCommands (taken ++ left) cs) (ap (λ (cs : List Command). cs ++ others) (sym is) ∙ append_assoc commands rest others) are)
 
 -- commands of an input of which nothing is taken
-first_none : (now : Option (List ℕ)) → AreFirst [] [] now
+pub first_none : (now : Option (List ℕ)) → AreFirst [] [] now
 first_none None = tt
 first_none (Some left) = let one = one_list left in (one.commands, one.are)
 
@@ -127,7 +127,7 @@ shows_moments : {D : Type 0} (d : Ghosts D) (first now : D) (state : State) (tur
     Elapses d.moment d.stood_since first now (ShowsMoment (d.beside first).output state turns)
 shows_moments d first now state turns time = elapsed_weaker time (λ s h. (h.0, h.1, every_moment state turns h.0 s.image h.2))
 
-few : {first now : Option (List ℕ)} {script : Script} {taken : List ℕ} {commands : List Command} → HasGivenIn script taken commands first now → TakesFew first now
+pub few : {first now : Option (List ℕ)} {script : Script} {taken : List ℕ} {commands : List Command} → HasGivenIn script taken commands first now → TakesFew first now
 few {first = first} {now = now} {script = script} {taken = taken} {commands = commands} given =
     record { taken = taken; few = few_given script taken commands first now given; takes = given.takes }
 

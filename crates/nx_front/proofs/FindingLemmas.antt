@@ -82,7 +82,7 @@ first_lines script taken told first (Some left) cuts =
 none_there : {A : Type 0} (x : A) → Contains [] x → ⊥
 none_there x h = let low : h.0 < 0 = h.1 in omega (arith, low)
 
-keeps_same : {T : Type 0} (old new : Option T) → new ≡ old → Keeps old new
+pub keeps_same : {T : Type 0} (old new : Option T) → new ≡ old → Keeps old new
 keeps_same old None same = tt
 keeps_same old (Some now) same = sym same
 

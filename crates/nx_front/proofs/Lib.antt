@@ -17,3 +17,6 @@ pub mod SessionLemmas
 pub mod FindingLaws
 pub mod SearchingLemmas
 pub mod FindingLemmas
+pub mod BatchLemmas
+pub mod AskingLaws
+pub mod AskingLemmas

@@ -1,5 +1,5 @@
 -- What groups are in at a moment at which they are applied, and which lines are out then.
-use Rattle.std.proofs.Common.{◌≡◌, ◌⊎◌, inl, inr, ℕ, zero, suc, ◌+◌, ◌<◌, ◌≤◌, List, [], ◌∷◌, ◌++◌, take, length, Option, None, Some, refl, sym, ap, ◌∙◌, subst, arith, append_assoc, append-nil, length-append}
+use Rattle.std.proofs.Common.{◌≡◌, inl, inr, ℕ, zero, suc, ◌+◌, ◌<◌, ◌≤◌, List, [], ◌∷◌, ◌++◌, take, length, Option, Some, refl, sym, ap, ◌∙◌, arith, append_assoc, length-append}
 use Rattle.std.proofs.lemmas.Bool.{cases_lt}
 use Rattle.std.proofs.lemmas.List.{length-take}
 use Rattle.nx_host.specs.Disk.{Image}
@@ -7,7 +7,6 @@ use Rattle.nx_replay.specs.Log.{Pages, Group, over, entry_pages, replay}
 use Rattle.nx_replay.specs.Laws.{over_all}
 use Rattle.nx_ship.specs.Applying.{applied_line, applied_text, IsAppliedBy}
 use Rattle.nx_state.specs.State.{State}
-use Rattle.nx_state.specs.Stands.{Stands}
 use Rattle.nx_front.specs.Serving.{BeginsWith}
 use Rattle.nx_front.specs.Applied.{StandBehindEach}
 use Rattle.nx_front.specs.Sessions.{AreOfState}

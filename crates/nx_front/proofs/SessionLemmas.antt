@@ -32,11 +32,12 @@ use Rattle.nx_filters.specs.declared.status.Status.{Status}
 use Rattle.nx_filters.specs.declared.status.Status.TheVariants.{Done, Usage, Refused, DiskFault, ReadFault, WriteFault, NoMemory, NotAStore, Damaged, TooMuch}
 use Rattle.nx_filters.specs.Outcome.{Meaning, RunsBeside}
 use Rattle.nx_front.specs.declared.words.CommandLine.{CommandLine}
-use Rattle.nx_front.specs.declared.words.CommandLine.TheVariants.{Tidy, Run, Plan, Verify, Init, Gen, Check, Find, Ship, Apply}
+use Rattle.nx_front.specs.declared.words.CommandLine.TheVariants.{Tidy, Run, Plan, Verify, Init, Gen, Check, Find, Ship, Apply, Ask}
 use Rattle.nx_front.specs.Turns.{Turn, IsRun, state_after, commands_of}
 use Rattle.nx_front.specs.Serving.{ServesFrom, AreFirst, AreWholeReplies, IsMoment}
 use Rattle.nx_front.specs.Generating.{generated, GeneratesFrom, FindsGenerated}
 use Rattle.nx_front.specs.Checking.{Checks}
+use Rattle.nx_front.specs.Asking.{Asks}
 use Rattle.nx_front.specs.Finding.{Finds}
 use Rattle.nx_front.specs.Shipping.{ShipsGroups}
 use Rattle.nx_front.specs.Applied.{TakesGroups, IsUntaken, StandBehindEach}
@@ -398,6 +399,10 @@ module _ {D : Type 0} {d : Ghosts D} where
       Went session (λ next. next ≡ held)
   ship_stays clock session held recovers ships = same_held session held recovers (stays {P = λ s. Unit {0}} clock session (elapsed_weaker ships.time (λ s h. (tt, h))))
 
+  ask_stays : HasClock d → (session : Session d) (held : Option State) → Recovers session.opened held → Asks d session.status session.before session.after →
+      Went session (λ next. next ≡ held)
+  ask_stays clock session held recovers asks = same_held session held recovers (stays {P = λ s. Unit {0}} clock session (elapsed_weaker asks.time (λ s h. (tt, h))))
+
   from_state : HasClock d → (line : CommandLine) (session : Session d) (state : State) → Recovers session.opened (Some state) →
       (carried : IsCarriedOut d line session.status session.before session.after) →
       LeadsToStates d line session.status session.before session.after carried session.opened session.settled session.told → Went session (LeadsFrom line session state)
@@ -411,6 +416,7 @@ module _ {D : Type 0} {d : Ghosts D} where
   from_state clock Check session state recovers carried stand = check_stays clock session (Some state) recovers carried
   from_state clock Find session state recovers carried stand = find_stays clock session (Some state) recovers carried
   from_state clock (Ship start) session state recovers carried stand = ship_stays clock session (Some state) recovers carried
+  from_state clock (Ask workers) session state recovers carried stand = ask_stays clock session (Some state) recovers carried
   from_state clock Apply session state recovers carried stand = applying clock session (Some state) recovers (carried.from session.opened session.settled session.told) stand
 
   from_none : HasClock d → (line : CommandLine) (session : Session d) → Recovers session.opened None →
@@ -427,6 +433,7 @@ module _ {D : Type 0} {d : Ghosts D} where
   from_none clock Check session none carried stand = check_stays clock session None none carried
   from_none clock Find session none carried stand = find_stays clock session None none carried
   from_none clock (Ship start) session none carried stand = ship_stays clock session None none carried
+  from_none clock (Ask workers) session none carried stand = ask_stays clock session None none carried
   from_none clock Apply session none carried stand = applying clock session None none (carried.from session.opened session.settled session.told) stand
 
   one_leads : HasClock d → (session : Session d) (held : Option State) → Recovers session.opened held → Went session (Leads session held)

@@ -1,28 +1,29 @@
 -- How groups are given, from what was sent of the store and what was said then.
-use Rattle.std.proofs.Common.{◌≡◌, ◌≢◌, ◌↔◌, ◌⊎◌, inl, inr, ℕ, zero, suc, ◌<◌, ◌≤◌, Bool, true, false, not, List, [], ◌∷◌, ◌++◌, take, get_or, length, Option, None, Some, IsSome, Result, Ok, Err, refl, sym, ap, ◌∙◌, subst, arith}
-use Rattle.std.specs.Prelude.{◌==◌, ◌&&◌, ◌||◌, if◌then◌else◌, Contains, slice_index_or}
+use Rattle.std.proofs.Common.{◌≡◌, ◌≢◌, ◌⊎◌, inl, inr, ℕ, zero, suc, ◌≤◌, Bool, true, false, not, List, [], ◌∷◌, ◌++◌, take, Option, None, Some, IsSome, Result, Ok, Err, refl, sym, ap, ◌∙◌, subst, arith}
+use Rattle.std.specs.Prelude.{◌==◌, ◌&&◌, ◌||◌, if◌then◌else◌, Contains}
 use Rattle.std.specs.List.{list_any}
-use Rattle.std.proofs.lemmas.Bool.{eq-eqb, eqb-true, ne_eqb}
+use Rattle.std.proofs.lemmas.Bool.{eq-eqb, ne_eqb}
 use Rattle.nx_host.specs.declared.disk.Disk.{Ghosts}
 use Rattle.nx_host.specs.Disk.{Image, Keeps, Rose}
 use Rattle.nx_host.specs.Host.{Appends, AppendsPrefix}
-use Rattle.nx_host.specs.Time.{Stood, Elapses, elapsed_then, elapsed_weaker}
-use Rattle.nx_host.specs.Still.{IsStill, IsSettled}
+use Rattle.nx_host.specs.Time.{elapsed_then, elapsed_weaker}
+use Rattle.nx_host.specs.Still.{IsStill}
 use Rattle.nx_host.specs.Phase.{GivesAlone}
 use Rattle.nx_host.proofs.DiskLemmas.{keeps_self, keeps_then}
-use Rattle.nx_replay.specs.Log.{Pages, Group, groups, replay}
+use Rattle.nx_replay.specs.Log.{Group, groups, replay}
 use Rattle.nx_holdings.specs.declared.header.Header.{Header}
 use Rattle.nx_ship.specs.Stream.{stream_of}
 use Rattle.nx_ship.specs.Next.{number_following, IsHeadedBy}
-use Rattle.nx_ship.specs.Sending.{from_number, shipment, Sends, IsMissing, HasWrongHeader, EndsShipping, ShipsFrom, IsUnshipped, IsByFault, Ships}
+use Rattle.nx_ship.specs.Sending.{from_number, shipment, Sends, EndsShipping, ShipsFrom, IsUnshipped, IsShipCause, Ships}
 use Rattle.nx_ship.specs.declared.error.Start.{Start}
 use Rattle.nx_ship.specs.declared.error.Start.TheVariants.{All, Number}
 use Rattle.nx_ship.specs.declared.error.ShipError.{ShipError}
 use Rattle.nx_ship.specs.declared.error.ShipError.TheVariants as error
 use Rattle.nx_ship.proofs.RecoveryLemmas.{states_are_whole}
 use Rattle.nx_ship.proofs.EntryLemmas.{one_head}
+use Rattle.nx_records.specs.Records.{HasHeader}
 use Rattle.nx_state.specs.State.{State}
-use Rattle.nx_state.specs.Stands.{Stands, Recovers}
+use Rattle.nx_state.specs.Stands.{Recovers}
 use Rattle.nx_store.specs.Store.{TakesNone}
 use Rattle.nx_filters.specs.declared.status.Status.{Status}
 use Rattle.nx_filters.specs.declared.status.Status.TheVariants.{Done, Usage, Refused, DiskFault, ReadFault, WriteFault, NoMemory, NotAStore, Damaged, TooMuch}
@@ -171,9 +172,9 @@ module _ {D : Type 0} (d : Ghosts D) (a b : D) where
   ends_giving was header start (Err (error.Base number)) ends = tt
   ends_giving was header start (Err (error.Stream offset)) ends = tt
 
-  raised : (result : Result (Unit {0}) ShipError) → IsByFault d result a b → IsShippingCaused d (shipping_status result) a b
+  raised : (result : Result (Unit {0}) ShipError) → IsShipCause d result a b → IsShippingCaused d (shipping_status result) a b
   raised (Ok done) cause = tt
-  raised (Err error.NotAStore) cause = tt
+  raised (Err error.NotAStore) cause = cause
   raised (Err (error.Damaged page)) cause = tt
   raised (Err error.Disk) cause = cause
   raised (Err error.Write) cause = cause
@@ -199,7 +200,7 @@ module _ {D : Type 0} {d : Ghosts D} {a b : D} where
   -- what came of the call is this status
   ships_by : (start : Start) (result : Result (Unit {0}) ShipError) (status : Status) →
       ((was : Image) (header : Header) → EndsShipping d was header start result a b → EndsGivingGroups d was header start status a b) →
-      ((was : Image) → IsUnshipped was result → IsUngiven was status) → (IsByFault d result a b → IsShippingCaused d status a b) → Ships d start result a b → ShipsGroups d start status a b
+      ((was : Image) → IsUnshipped was result → IsUngiven was status) → (IsShipCause d result a b → IsShippingCaused d status a b) → Ships d start result a b → ShipsGroups d start status a b
   ships_by start result status ends_as ungiven_as raised_as ships =
       let (bytes, sends) = ships.sends in
       record {
@@ -324,7 +325,7 @@ module _ {D : Type 0} {d : Ghosts D} {a b : D} (start : Start) (was : Image) (st
     (header : Header) (headed : IsHeadedBy (replay was) header) where
   ungiven_ends : (status : Status) → IsUngiven was status → IsShippingCaused d status a b → EndsWell status × EndsRefusing status
   ungiven_ends NotAStore why cause = absurd (why (states_are_whole.mark was state recovers))
-  ungiven_ends (Damaged page) why cause = absurd (states_are_whole.header was state page recovers why)
+  ungiven_ends (Damaged page) why cause = absurd (states_are_whole.header was state page recovers why.1)
   ungiven_ends DiskFault why cause = absurd (calm.disk cause)
   ungiven_ends NoMemory why cause = (tt, tt)
   ungiven_ends Done why cause = absurd why
@@ -366,11 +367,32 @@ module _ {D : Type 0} {d : Ghosts D} {a b : D} (start : Start) (was : Image) (st
     | inr (why, still) ↦ both_ends t status (ungiven_ends status why ships.cause)
   ]
 
+-- a disk without a store
+module _ {D : Type 0} {d : Ghosts D} {a b : D} (was : Image) (calm : IsUntroubled d was a b) (none : HasHeader was → ⊥) where
+  ungiven_without : (status : Status) → IsUngiven was status → IsShippingCaused d status a b → (status ≡ NotAStore) ⊎ (status ≡ NoMemory)
+  ungiven_without NotAStore why cause = inl refl
+  ungiven_without NoMemory why cause = inr refl
+  ungiven_without (Damaged page) why cause = absurd (none why.0)
+  ungiven_without DiskFault why cause = absurd (calm.disk cause)
+  ungiven_without Done why cause = absurd why
+  ungiven_without Usage why cause = absurd why
+  ungiven_without Refused why cause = absurd why
+  ungiven_without ReadFault why cause = absurd why
+  ungiven_without WriteFault why cause = absurd why
+  ungiven_without TooMuch why cause = absurd why
+
+  ship_without : (start : Start) (status : Status) → ShipsGroups d start status a b → (status ≡ NotAStore) ⊎ (status ≡ NoMemory)
+  ship_without start status ships = elim (ships.from was calm.settled calm.still_told) [
+    | inl gives ↦ absurd (none (states_are_whole.headed (replay was) gives.header gives.headed))
+    | inr (why, still) ↦ ungiven_without status why ships.cause
+  ]
+
 -- how such a run ends where nothing fails
 pub ship_completes : {D : Type 0} {d : Ghosts D} {a b : D} (start : Start) (status : Status) → ShipsGroups d start status a b → CompletesShipping d start status a b
 ship_completes start status ships = record {
   store = λ was state header calm recovers headed can. ship_ends start was state calm recovers header headed false (can_ship was header start can) status ships;
   lacking = λ was state header calm recovers headed lacks. ship_ends start was state calm recovers header headed true lacks status ships;
+  no_store = λ was calm none. ship_without was calm none start status ships;
 }
 
 pub one_shipment : (start : Start) → HasOneShipment start

@@ -10,7 +10,7 @@ use Rattle.nx_store.specs.declared.error.EngineError.TheVariants as engine
 use Rattle.nx_filters.specs.declared.status.Status.{Status}
 use Rattle.nx_filters.specs.declared.status.Status.TheVariants.{Done, Usage, Refused, DiskFault, ReadFault, WriteFault, NoMemory, NotAStore, Damaged, TooMuch}
 use Rattle.nx_front.specs.declared.words.CommandLine.{CommandLine}
-use Rattle.nx_front.specs.declared.words.CommandLine.TheVariants.{Tidy, Run, Plan, Verify, Init, Gen, Check, Find, Ship, Apply}
+use Rattle.nx_front.specs.declared.words.CommandLine.TheVariants.{Tidy, Run, Plan, Verify, Init, Gen, Check, Find, Ship, Apply, Ask}
 use Rattle.nx_filters.specs.Outcome.{Meaning, RunsBeside, TakesFew, CountsGrow, Completes, HoldsTogether}
 use Rattle.nx_front.specs.Run.{IsCarriedOut, CompletesInput, IsCompleted, IsCoherent, AnswersAgree}
 use Rattle.nx_filters.specs.Plan.{IsLightInput, plan}
@@ -27,6 +27,9 @@ use Rattle.nx_front.proofs.CheckingLemmas.{checks_nothing, check_completes, chec
 use Rattle.nx_ship.proofs.StreamLemmas.{one_stream}
 use Rattle.nx_front.proofs.ShippingLemmas.{ships_nothing, ship_completes, ship_not_usage, one_shipment}
 use Rattle.nx_front.proofs.AppliedLemmas.{receives_nothing, apply_completes, apply_not_usage, apply_together}
+use Rattle.nx_ask.specs.declared.error.AskError.TheVariants as asking
+use Rattle.nx_front.proofs.AskingLaws.{asking_completes, one_asked_text}
+use Rattle.nx_front.proofs.AskingLemmas.{asks_untaken}
 use Rattle.nx_front.proofs.FindingLaws.{finding_completes, one_answer}
 use Rattle.nx_front.proofs.FindingLemmas.{finds_unopened}
 use Rattle.nx_front.proofs.InitLemmas.{finds_no_memory, init_completes, init_not_usage, init_together, holds_nothing}
@@ -66,6 +69,7 @@ module _ {D : Type 0} (d : Ghosts D) (a : D) where
   starved Find clock = finds_unopened d a a engine.Memory none_still tt (λ was settled. record { sound = λ held holds. omega arith; no_header = λ none. omega arith })
   starved (Ship start) clock = ships_nothing start none_still
   starved Apply clock = receives_nothing none_still
+  starved (Ask workers) clock = asks_untaken d a a asking.Memory none_still tt
 
 module _ {D : Type 0} (d : Ghosts D) (a b : D) where
   -- the same command line
@@ -84,6 +88,7 @@ module _ {D : Type 0} (d : Ghosts D) (a b : D) where
   carried_bounded Find status carried = carried.bounded
   carried_bounded (Ship start) status carried = record { taken = []; few = (let e : 0 ≤ most_input = omega arith in e); takes = (carried.takes).input_stays }
   carried_bounded Apply status carried = carried.bounded
+  carried_bounded (Ask workers) status carried = carried.bounded
 
   beside_counts : {m : Meaning} (status : Status) → RunsBeside d m status a b → CountsGrow (d.beside a) (d.beside b) × (d.faults a ≤ d.faults b)
   beside_counts status runs = (runs.run.counts, let same : d.faults b ≡ d.faults a = runs.disk.faults_stay in omega (arith, same))
@@ -107,6 +112,7 @@ module _ {D : Type 0} (d : Ghosts D) (a b : D) where
     (carried.takes).faults_later,
   )
   carried_counts Apply status carried = (carried.counts, carried.faults_later)
+  carried_counts (Ask workers) status carried = (carried.counts, carried.faults_later)
 
   beside_completes : {m : Meaning} (status : Status) → HoldsTogether m → RunsBeside d m status a b → CompletesInput m status (d.beside a) (d.beside b)
   beside_completes status together runs input calm = completes together runs.run.outcome status input (d.beside a) (d.beside b) runs.run.ends calm
@@ -123,6 +129,7 @@ module _ {D : Type 0} (d : Ghosts D) (a b : D) where
   carried_completes Find status carried = finding_completes status carried
   carried_completes (Ship start) status carried = ship_completes start status carried
   carried_completes Apply status carried = apply_completes status carried
+  carried_completes (Ask workers) status carried = asking_completes status carried
 
   -- a command line isn't answered by how it is to be written
   carried_usage : (line : CommandLine) → IsCarriedOut d line Usage a b → ⊥
@@ -136,6 +143,7 @@ module _ {D : Type 0} (d : Ghosts D) (a b : D) where
   carried_usage Find carried = carried.cause
   carried_usage (Ship start) carried = ship_not_usage start carried
   carried_usage Apply carried = apply_not_usage carried
+  carried_usage (Ask workers) carried = carried.cause
 
   -- nor does it end so
   pub not_usage : (line : CommandLine) (status : Status) → IsCarriedOut d line status a b → status ≡ Usage → ⊥
@@ -185,6 +193,7 @@ together Check = check_together
 together Find = serving_together
 together (Ship start) = serving_together
 together Apply = apply_together
+together (Ask workers) = serving_together
 
 -- how the answers of each input go together
 pub agrees : (line : CommandLine) → AnswersAgree line
@@ -198,3 +207,4 @@ agrees Check = verdicts_agree
 agrees Find = one_answer
 agrees (Ship start) = one_shipment start
 agrees Apply = one_stream
+agrees (Ask workers) = one_asked_text

@@ -6,21 +6,20 @@ use Rattle.nx_host.specs.Host.{Takes, IsAtEnd, Appends}
 use Rattle.nx_host.specs.Input.{most_input}
 use Rattle.nx_host.specs.Time.{Stood, Elapses}
 use Rattle.nx_host.specs.Still.{IsStill, IsSettled}
-use Rattle.nx_replay.specs.Log.{Pages, Group, over, entry_pages}
-use Rattle.nx_replay.specs.Laws.{over_all}
 use Rattle.nx_records.specs.Words.{replay}
 use Rattle.nx_records.specs.Records.{HasHeader}
-use Rattle.nx_ship.specs.Stream.{IsGood, Begins, OneStream}
+use Rattle.nx_ship.specs.Words.{Pages, Group, over, entry_pages, over_all}
+use Rattle.nx_ship.specs.Stream.{IsPartOfGroup, Begins}
 use Rattle.nx_ship.specs.Next.{IsOpenFor, ComeInTurn, StayDense}
 use Rattle.nx_ship.specs.Sending.{HasWrongHeader}
-use Rattle.nx_ship.specs.Applying.{applied_text, ShowsApplied, AreIn, IsOutOfTurn, IsNoBase, IsNoGroup}
+use Rattle.nx_ship.specs.Applying.{applied_text, ShowsApplied, groups_in, HasLogged, AreIn, IsOutOfTurn, IsNoBase, IsNoGroup}
 use Rattle.nx_state.specs.State.{State}
 use Rattle.nx_state.specs.Stands.{Stands, Recovers}
 use Rattle.nx_filters.specs.declared.status.Status.{Status}
 use Rattle.nx_filters.specs.declared.status.Status.TheVariants.{Done, Usage, Refused, DiskFault, ReadFault, WriteFault, NoMemory, NotAStore, Damaged, TooMuch}
 use Rattle.nx_filters.specs.Outcome.{TakesFew, CountsGrow}
 use Rattle.nx_filters.specs.Refusal.{line_of_fields}
-use Rattle.nx_front.specs.Init.{HasPage}
+use Rattle.nx_front.specs.Init.{HasPage, IsUntroubled}
 use Rattle.nx_front.specs.Serving.{IsCalm, EndsWell}
 
 -- the lines for a group that comes again and for one that comes too early, beside the number of the last one
@@ -62,25 +61,37 @@ pub record TurnsAway {D : Type 0} (d : Ghosts D) (start : Pages) (groups : List 
   pub image : Image
   pub settled : IsSettled d new image
   pub is : replay image ≡ over_all start groups
+  pub logged : (was : Image) → IsSettled d old was → HasLogged (groups_in was) groups image
 
--- how a run ends that took these bytes, which begin with these groups, and with this rest behind them: all are in; or also the first that isn't applied is told; or it was cut short
-abbrev pub EndsTaking : {D : Type 0} → Ghosts D → Pages → List ℕ → List Group → List ℕ → Status → D → D → Type 0
-EndsTaking d start taken groups rest Done old new = (rest ≡ []) × IsAtEnd (d.beside new).input × (length taken < most_input) × AreIn d start groups old new
-EndsTaking d start taken groups rest Refused old new = TurnsAway d start groups rest old new
-EndsTaking d start taken groups rest ReadFault old new = (IsGood rest → ⊥) × (length taken < most_input) × AreIn d start groups old new
-EndsTaking d start taken groups rest TooMuch old new = (IsGood rest → ⊥) × (length taken ≡ most_input) × AreIn d start groups old new
-EndsTaking d start taken groups rest DiskFault old new = Unit {0}
-EndsTaking d start taken groups rest WriteFault old new = Unit {0}
-EndsTaking d start taken groups rest NoMemory old new = Unit {0}
-EndsTaking d start taken groups rest _ old new = ⊥
+-- how a run ends that took these bytes, which begin with these groups, and with this rest behind them, and that left this input: nothing is behind them, and the input has ended; or what is
+-- there is turned away; or it is a part of a group; or the run was cut short
+abbrev pub EndsTaking : Pages → List ℕ → List Group → List ℕ → Option (List ℕ) → Status → Type 0
+EndsTaking start taken groups rest left Done = (rest ≡ []) × IsAtEnd left × (length taken < most_input)
+EndsTaking start taken groups rest left Refused = (line : List ℕ) × IsTurnedAway start groups rest left line
+EndsTaking start taken groups rest left ReadFault = IsPartOfGroup rest × (length taken < most_input)
+EndsTaking start taken groups rest left TooMuch = IsPartOfGroup rest × (length taken ≡ most_input)
+EndsTaking start taken groups rest left DiskFault = Unit {0}
+EndsTaking start taken groups rest left WriteFault = Unit {0}
+EndsTaking start taken groups rest left NoMemory = Unit {0}
+EndsTaking start taken groups rest left _ = ⊥
 
--- Groups were applied to these pages, each the next one.
-pub record ShowsGroups {D : Type 0} (d : Ghosts D) (start : Pages) (taken : List ℕ) (groups : List Group) (rest : List ℕ) (status : Status) (old new : D) : Type 0 where
-  pub in_turn : ComeInTurn start groups
+-- what is in then, and out: all groups and their lines; and also the line of what is turned away
+abbrev pub EndsApplied : {D : Type 0} → Ghosts D → Pages → List Group → List ℕ → Status → D → D → Type 0
+EndsApplied d start groups rest Done old new = AreIn d start groups old new
+EndsApplied d start groups rest Refused old new = TurnsAway d start groups rest old new
+EndsApplied d start groups rest ReadFault old new = AreIn d start groups old new
+EndsApplied d start groups rest TooMuch old new = AreIn d start groups old new
+EndsApplied d start groups rest DiskFault old new = Unit {0}
+EndsApplied d start groups rest WriteFault old new = Unit {0}
+EndsApplied d start groups rest NoMemory old new = Unit {0}
+EndsApplied d start groups rest _ old new = ⊥
+
+-- What stood at each moment while groups were applied to these pages, and what is in at the end.
+pub record ShowsGroups {D : Type 0} (d : Ghosts D) (start : Pages) (groups : List Group) (rest : List ℕ) (status : Status) (old new : D) : Type 0 where
   pub time : Elapses d.moment d.stood_since old new (ShowsTaken (d.beside old).output start groups rest (d.beside new).input)
-  pub ends : EndsTaking d start taken groups rest status old new
+  pub all_in : EndsApplied d start groups rest status old new
 
--- The store has a header, or there is no page; and the groups were applied to it with which the bytes begin that were taken. What is said of images and of what is out holds where
+-- The store has a header, or there is no page; and the groups were applied to it, each the next one, with which the bytes begin that were taken; and why no others were. What is said of images and of what is out holds where
 -- the groups, laid over the pages in order, never leave a page missing below the greatest.
 pub record TakesGroups {D : Type 0} (d : Ghosts D) (was : Image) (status : Status) (old new : D) : Type 0 where
   pub opened : IsOpenFor (replay was)
@@ -90,12 +101,14 @@ pub record TakesGroups {D : Type 0} (d : Ghosts D) (was : Image) (status : Statu
   pub groups : List Group
   pub rest : List ℕ
   pub begins : Begins groups taken rest
-  pub shows : StayDense (replay was) groups → ShowsGroups d (replay was) taken groups rest status old new
+  pub in_turn : ComeInTurn (replay was) groups
+  pub why : EndsTaking (replay was) taken groups rest (d.beside new).input status
+  pub shows : StayDense (replay was) groups → ShowsGroups d (replay was) groups rest status old new
 
--- why nothing was taken: there are pages, and no header; or page 0 is none; or a call of the disk failed, or there was no memory
+-- why nothing was taken: there are pages, and no header; or page 0, which begins as one, is none; or a call of the disk failed, or there was no memory
 abbrev pub IsUntaken : Image → Status → Type 0
 IsUntaken was NotAStore = (HasHeader was → ⊥) × HasPage was
-IsUntaken was (Damaged page) = HasWrongHeader (replay was) page
+IsUntaken was (Damaged page) = HasHeader was × HasWrongHeader (replay was) page
 IsUntaken was DiskFault = Unit {0}
 IsUntaken was NoMemory = Unit {0}
 IsUntaken was _ = ⊥
@@ -103,10 +116,16 @@ IsUntaken was _ = ⊥
 -- why it ends so, whatever the disk holds
 abbrev pub IsApplyingCaused : {D : Type 0} → Ghosts D → Status → D → D → Type 0
 IsApplyingCaused d DiskFault old new = Rose (d.faults old) (d.faults new)
-IsApplyingCaused d ReadFault old new = Rose (d.beside old).in_faults (d.beside new).in_faults
+IsApplyingCaused d ReadFault old new =
+    Rose (d.beside old).in_faults (d.beside new).in_faults × (taken : List ℕ) × (length taken < most_input) × Takes taken (d.beside old).input (d.beside new).input
 IsApplyingCaused d WriteFault old new = Rose (d.beside old).out_faults (d.beside new).out_faults
+IsApplyingCaused d TooMuch old new = (taken : List ℕ) × (length taken ≡ most_input) × Takes taken (d.beside old).input (d.beside new).input
+IsApplyingCaused d Done old new = (taken : List ℕ) × (length taken < most_input) × Takes taken (d.beside old).input (d.beside new).input × IsAtEnd (d.beside new).input
+IsApplyingCaused d NotAStore old new = (was : Image) → IsSettled d old was → (HasHeader was → ⊥) × HasPage was
+IsApplyingCaused d (Damaged page) old new = (was : Image) → IsSettled d old was → HasHeader was × HasWrongHeader (replay was) page
+IsApplyingCaused d Refused old new = Unit {0}
+IsApplyingCaused d NoMemory old new = Unit {0}
 IsApplyingCaused d Usage old new = ⊥
-IsApplyingCaused d _ old new = Unit {0}
 
 -- How `apply` is carried out: over a disk with one image, that is told; why it ends so, and what it leaves in any case.
 pub record ReceivesGroups {D : Type 0} (d : Ghosts D) (status : Status) (old new : D) : Type 0 where
@@ -122,10 +141,12 @@ abbrev pub StandBehindEach : Pages → List Group → Type 0
 StandBehindEach pages [] = Unit {0}
 StandBehindEach pages (g ∷ gs) = ((state : State) × Stands (over (entry_pages g.entries) pages) state) × StandBehindEach (over (entry_pages g.entries) pages) gs
 
--- Where all is well, over a store in some state or a disk without pages a stream of groups is applied, each of which is the next one and leads to a state, unless memory runs out.
-abbrev pub CompletesApplying : {D : Type 0} → Ghosts D → Status → D → D → Type 0
-CompletesApplying d status old new = (was : Image) (held : Option State) (input : List ℕ) (groups : List Group) → IsCalm d was input old new → Recovers was held
-    → Begins groups input [] → ComeInTurn (replay was) groups → StandBehindEach (replay was) groups → EndsWell status
+-- Where all is well, over a store in some state or a disk without pages a stream of groups is applied, each of which is the next one and leads to a state; and a disk with pages and without
+-- a store is refused; unless memory runs out.
+pub record CompletesApplying {D : Type 0} (d : Ghosts D) (status : Status) (old new : D) : Type 0 where
+  pub store : (was : Image) (held : Option State) (input : List ℕ) (groups : List Group) → IsCalm d was input old new → Recovers was held
+      → Begins groups input [] → ComeInTurn (replay was) groups → StandBehindEach (replay was) groups → EndsWell status
+  pub no_store : (was : Image) → IsUntroubled d was old new → (HasHeader was → ⊥) → HasPage was → (status ≡ NotAStore) ⊎ (status ≡ NoMemory)
 
 -- what isn't applied is turned away for one reason
 abbrev pub ApplyHoldsTogether : Type 0

@@ -9,7 +9,7 @@ use Rattle.nx_records.specs.Words.{most_pages, Settings, AreSettings}
 use Rattle.nx_ship.specs.declared.error.Start.{Start}
 use Rattle.nx_ship.specs.declared.error.Start.TheVariants.{All, Number}
 use Rattle.nx_front.specs.declared.words.CommandLine.{CommandLine}
-use Rattle.nx_front.specs.declared.words.CommandLine.TheVariants.{Tidy, Run, Plan, Verify, Init, Gen, Check, Find, Ship, Apply}
+use Rattle.nx_front.specs.declared.words.CommandLine.TheVariants.{Tidy, Run, Plan, Verify, Init, Gen, Check, Find, Ship, Apply, Ask}
 
 -- a word that may name a store: it isn't empty, and doesn't begin with a hyphen
 abbrev pub is_store : List ℕ → Bool
@@ -93,6 +93,14 @@ start_said word = if bytes_eq word (codes "all") then Some All else if is_group_
 abbrev pub command_of_ship : List ℕ → List ℕ → Option CommandLine
 command_of_ship store word = if is_named_store store then option_map Ship (start_said word) else None
 
+-- a decimal of a number of workers
+abbrev pub are_workers : List ℕ → Bool
+are_workers digits = is_within 1 64 digits
+
+-- a store that is used, `ask`, and by how many workers
+abbrev pub command_of_ask : List ℕ → List ℕ → Option CommandLine
+command_of_ask store word = if is_named_store store && are_workers word then Some (Ask (value_of word)) else None
+
 -- a store and `plan` or `verify`, whatever the store, and what a part weighs at most
 abbrev pub command_of_limit : List ℕ → List ℕ → List ℕ → Option CommandLine
 command_of_limit store command limit =
@@ -102,7 +110,10 @@ command_of_limit store command limit =
 
 -- one of these, of three words
 abbrev pub command_of_three : List ℕ → List ℕ → List ℕ → Option CommandLine
-command_of_three store command word = if bytes_eq command (codes "ship") then command_of_ship store word else command_of_limit store command word
+command_of_three store command word =
+    if bytes_eq command (codes "ship") then command_of_ship store word
+    else if bytes_eq command (codes "ask") then command_of_ask store word
+    else command_of_limit store command word
 
 -- a store that is used, `gen`, a seed and a number
 abbrev pub command_of_four : List ℕ → List ℕ → List ℕ → List ℕ → Option CommandLine
@@ -130,4 +141,5 @@ IsLimited (Plan k) = (1 ≤ k) × (k ≤ 256)
 IsLimited (Verify k) = (1 ≤ k) × (k ≤ 256)
 IsLimited (Init settings) = AreSettings settings
 IsLimited (Gen seed n) = (seed < 2 ^ 31) × (1 ≤ n) × (n ≤ 100000)
+IsLimited (Ask workers) = (1 ≤ workers) × (workers ≤ 64)
 IsLimited _ = Unit {0}

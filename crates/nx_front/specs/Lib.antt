@@ -16,3 +16,5 @@ pub mod Finding
 pub mod Gathered
 pub mod Searching
 pub mod Questions
+pub mod Asking
+pub mod Batches

@@ -4,7 +4,7 @@ use Rattle.nx_host.specs.declared.disk.Disk.{Ghosts}
 use Rattle.nx_host.specs.Disk.{Image, Beside}
 use Rattle.nx_filters.specs.declared.status.Status.{Status}
 use Rattle.nx_front.specs.declared.words.CommandLine.{CommandLine}
-use Rattle.nx_front.specs.declared.words.CommandLine.TheVariants.{Tidy, Run, Plan, Verify, Init, Gen, Check, Find, Ship, Apply}
+use Rattle.nx_front.specs.declared.words.CommandLine.TheVariants.{Tidy, Run, Plan, Verify, Init, Gen, Check, Find, Ship, Apply, Ask}
 use Rattle.nx_filters.specs.Outcome.{Meaning, HasOneText, RunsBeside, HoldsTogether, IsUndisturbed, Completes}
 use Rattle.nx_filters.specs.Tidy.{tidy}
 use Rattle.nx_front.specs.Serving.{Serves, CompletesServing, ServingHoldsTogether, HasOneScript}
@@ -13,6 +13,7 @@ use Rattle.nx_filters.specs.Verify.{verify}
 use Rattle.nx_front.specs.Generating.{Generates, CompletesGenerating}
 use Rattle.nx_front.specs.Checking.{Checks, CompletesChecking, CheckHoldsTogether, VerdictsAgree}
 use Rattle.nx_front.specs.Finding.{Finds, HasOneAnswer}
+use Rattle.nx_front.specs.Asking.{Asks, HasOneAskedText}
 use Rattle.nx_ship.specs.Stream.{OneStream}
 use Rattle.nx_front.specs.Shipping.{ShipsGroups, CompletesShipping, HasOneShipment}
 use Rattle.nx_front.specs.Applied.{ReceivesGroups, CompletesApplying, ApplyHoldsTogether}
@@ -30,6 +31,7 @@ IsCarriedOut d Check status old new = Checks d status old new
 IsCarriedOut d Find status old new = Finds d status old new
 IsCarriedOut d (Ship start) status old new = ShipsGroups d start status old new
 IsCarriedOut d Apply status old new = ReceivesGroups d status old new
+IsCarriedOut d (Ask workers) status old new = Asks d status old new
 
 -- a run over an input that nothing disturbs ends with what that has
 abbrev pub CompletesInput : Meaning → Status → Beside → Beside → Type 0
@@ -47,6 +49,7 @@ IsCompleted d Check status old new = CompletesChecking d status old new
 IsCompleted d Find status old new = CompletesServing d status old new
 IsCompleted d (Ship start) status old new = CompletesShipping d start status old new
 IsCompleted d Apply status old new = CompletesApplying d status old new
+IsCompleted d (Ask workers) status old new = CompletesServing d status old new
 
 -- what is said of an input, or of a disk, holds together
 abbrev pub IsCoherent : CommandLine → Type 0
@@ -60,9 +63,10 @@ IsCoherent Check = CheckHoldsTogether
 IsCoherent Find = ServingHoldsTogether
 IsCoherent (Ship start) = ServingHoldsTogether
 IsCoherent Apply = ApplyHoldsTogether
+IsCoherent (Ask workers) = ServingHoldsTogether
 
 -- how the answers of an input go together: they have one text, but those of `plan` are only as good as each other; those of `run` are of one list of commands; a new store holds one thing;
--- pages have one verdict; lines have one text of replies, from a state; an image has one text of what is shipped, and a stream one row of groups; and of `gen` nothing is said, which takes no
+-- pages have one verdict; lines, and questions, have one text of replies, from a state; an image has one text of what is shipped, and a stream one row of groups; and of `gen` nothing is said, which takes no
 -- input
 abbrev pub AnswersAgree : CommandLine → Type 0
 AnswersAgree Tidy = HasOneText tidy
@@ -75,3 +79,4 @@ AnswersAgree Check = VerdictsAgree
 AnswersAgree Find = HasOneAnswer
 AnswersAgree (Ship start) = HasOneShipment start
 AnswersAgree Apply = OneStream
+AnswersAgree (Ask workers) = HasOneAskedText

@@ -6,13 +6,12 @@ use Rattle.nx_host.specs.Disk.{Image, Keeps}
 use Rattle.nx_host.specs.Host.{Takes, Appends}
 use Rattle.nx_host.specs.Still.{IsSettled, IsStill}
 use Rattle.nx_host.specs.Time.{Stood}
-use Rattle.nx_replay.specs.Log.{Pages, Group}
-use Rattle.nx_replay.specs.Laws.{over_all}
 use Rattle.nx_records.specs.Words.{replay, Settings}
 use Rattle.nx_script.specs.declared.command.Command.{Command}
 use Rattle.nx_script.specs.Commands.{AreCommands}
 use Rattle.nx_gen.specs.Commands.{commands}
 use Rattle.nx_state.specs.State.{State, new_state}
+use Rattle.nx_ship.specs.Words.{Pages, Group, over_all}
 use Rattle.nx_ship.specs.Stream.{Begins}
 use Rattle.nx_ship.specs.Applying.{applied_text}
 use Rattle.nx_state.specs.Stands.{Stands, Recovers}

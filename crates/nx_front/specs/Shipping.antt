@@ -1,15 +1,15 @@
 -- What `ship` does: it gives groups of a store as a stream, or says that there is no such group. It takes no input, and leaves both areas.
-use Rattle.std.specs.Prelude.{◌≡◌, ◌⊎◌, ◌↔◌, ◌&&◌, ◌==◌, not, if◌then◌else◌, ℕ, ◌<◌, ◌≤◌, Bool, true, false, List, [], ◌∷◌, Option, Some, IsSome, codes, decimal, Contains}
+use Rattle.std.specs.Prelude.{◌≡◌, ◌⊎◌, ◌↔◌, ◌&&◌, ◌==◌, not, if◌then◌else◌, ℕ, ◌<◌, Bool, true, false, List, [], ◌∷◌, Some, IsSome, codes, decimal, Contains}
 use Rattle.std.specs.List.{list_any}
 use Rattle.nx_host.specs.declared.disk.Disk.{Ghosts}
 use Rattle.nx_host.specs.Disk.{Image, Keeps, Rose}
 use Rattle.nx_host.specs.Host.{Appends, AppendsPrefix}
 use Rattle.nx_host.specs.Time.{Elapses}
 use Rattle.nx_host.specs.Still.{IsStill, IsSettled}
-use Rattle.nx_replay.specs.Log.{Group, groups}
 use Rattle.nx_holdings.specs.declared.header.Header.{Header}
 use Rattle.nx_records.specs.Words.{replay}
 use Rattle.nx_records.specs.Records.{HasHeader}
+use Rattle.nx_ship.specs.Words.{Group, groups}
 use Rattle.nx_ship.specs.Stream.{stream_of}
 use Rattle.nx_ship.specs.Next.{number_following, IsHeadedBy}
 use Rattle.nx_ship.specs.Sending.{shipment, IsMissing, HasWrongHeader}
@@ -19,7 +19,7 @@ use Rattle.nx_state.specs.State.{State}
 use Rattle.nx_state.specs.Stands.{Recovers}
 use Rattle.nx_store.specs.Store.{TakesNone}
 use Rattle.nx_filters.specs.declared.status.Status.{Status}
-use Rattle.nx_filters.specs.declared.status.Status.TheVariants.{Done, Usage, Refused, DiskFault, ReadFault, WriteFault, NoMemory, NotAStore, Damaged, TooMuch}
+use Rattle.nx_filters.specs.declared.status.Status.TheVariants.{Done, Refused, DiskFault, WriteFault, NoMemory, NotAStore, Damaged}
 use Rattle.nx_filters.specs.Refusal.{line_of_fields}
 use Rattle.nx_front.specs.Init.{IsUntroubled}
 use Rattle.nx_front.specs.Serving.{EndsWell}
@@ -67,10 +67,10 @@ pub record GivesGroups {D : Type 0} (d : Ghosts D) (was : Image) (start : Start)
   pub time : Elapses d.moment d.stood_since old new (λ s. AppendsPrefix (shipment_text was header start) (d.beside old).output s.output × d.may_leave old s.image)
   pub ends : EndsGivingGroups d was header start status old new
 
--- why nothing was given of an image: it has no header; or page 0 is none; or a call of the disk failed, or there was no memory
+-- why nothing was given of an image: it has no header; or page 0, which begins as one, is none; or a call of the disk failed, or there was no memory
 abbrev pub IsUngiven : Image → Status → Type 0
 IsUngiven was NotAStore = HasHeader was → ⊥
-IsUngiven was (Damaged page) = HasWrongHeader (replay was) page
+IsUngiven was (Damaged page) = HasHeader was × HasWrongHeader (replay was) page
 IsUngiven was DiskFault = Unit {0}
 IsUngiven was NoMemory = Unit {0}
 IsUngiven was _ = ⊥
@@ -82,7 +82,7 @@ IsShippingCaused d WriteFault old new = Rose (d.beside old).out_faults (d.beside
 IsShippingCaused d Done old new = Unit {0}
 IsShippingCaused d Refused old new = Unit {0}
 IsShippingCaused d NoMemory old new = Unit {0}
-IsShippingCaused d NotAStore old new = Unit {0}
+IsShippingCaused d NotAStore old new = (was : Image) → IsSettled d old was → HasHeader was → ⊥
 IsShippingCaused d (Damaged page) old new = Unit {0}
 IsShippingCaused d _ old new = ⊥
 
@@ -100,10 +100,11 @@ abbrev pub CanShip : Image → Header → Start → Type 0
 CanShip was header All = Unit {0}
 CanShip was header (Number number) = ((g : Group) × Contains (groups was.log) g × (g.number ≡ number)) ⊎ (number ≡ number_following header.number)
 
--- Where nothing fails, over a store in some state the groups are given, or it is said that there is none, unless memory runs out.
+-- Where nothing fails, over a store in some state the groups are given, or it is said that there is none; and a disk without a store is refused; unless memory runs out.
 pub record CompletesShipping {D : Type 0} (d : Ghosts D) (start : Start) (status : Status) (old new : D) : Type 0 where
   pub store : (was : Image) (state : State) (header : Header) → IsUntroubled d was old new → Recovers was (Some state) → IsHeadedBy (replay was) header → CanShip was header start → EndsWell status
   pub lacking : (was : Image) (state : State) (header : Header) → IsUntroubled d was old new → Recovers was (Some state) → IsHeadedBy (replay was) header → lacks_group was header start ≡ true → EndsRefusing status
+  pub no_store : (was : Image) → IsUntroubled d was old new → (HasHeader was → ⊥) → (status ≡ NotAStore) ⊎ (status ≡ NoMemory)
 
 -- an image has one header, and so one text of what is shipped
 abbrev pub HasOneShipment : Start → Type 0

@@ -2,6 +2,7 @@
 #![tactic(auto)]
 
 mod apply;
+mod ask;
 mod check;
 mod find;
 mod gathered;

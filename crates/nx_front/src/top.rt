@@ -9,6 +9,7 @@ ghost use Rattle.nx_front.specs.declared.words.CommandLine.{CommandLine};
 ghost use Rattle.nx_front.specs.declared.words.CommandLine.TheVariants.{Plan, Verify};
 
 use crate::apply::apply;
+use crate::ask::ask;
 use crate::check::check;
 use crate::find::answer_questions;
 use crate::generate::generate;
@@ -53,6 +54,10 @@ use std::thread::Threads;
 ///
 /// `STORE find`, where STORE isn't `_`, reads lines `find NAME STEPS`, and gives for each a line `at PATH` for each node that the steps reach in
 /// the document of that name, in document order, and a line `.`; or one line that refuses it. It writes nothing to the disk.
+///
+/// `STORE ask WORKERS`, where STORE isn't `_`, answers the commands of a script over one snapshot of the store on the disk, by that many workers,
+/// 1 to 64, which share it. `names`, `export`, `get`, `layout` and `rules` are answered as `run` answers them; every other command is answered as a line
+/// that is no command. The replies to 1,024 commands are given at once, in their order, when there are all of them. It writes nothing to the disk.
 ///
 /// `STORE ship FROM`, where STORE isn't `_`, gives groups of the store as a stream: with `all` one group of all pages, with the number of
 /// the last commit; with a number up to 18,446,744,073,709,551,615 the groups of the log from the first one with it on, and none
@@ -112,5 +117,6 @@ fn carry_out<R: Threads + Sync, H: Host>(
         CommandLine::Find => answer_questions(alloc, host),
         CommandLine::Ship(start) => ship(alloc, host, start),
         CommandLine::Apply => apply(alloc, host),
+        CommandLine::Ask(workers) => ask(rt, alloc, host, workers),
     }
 }

@@ -2,7 +2,7 @@
 ghost use Rattle.std.specs.Prelude.{◌≡◌, ◌≤◌, ◌∷◌, true, false, map, is_some, IfOk, IfErr, IfSome, IsSome, MatchOption};
 ghost use Rattle.nx_pyx.specs.Field.{value_of};
 ghost use Rattle.nx_records.specs.Words.{AreSettings};
-ghost use Rattle.nx_front.specs.CommandLine.{is_store, is_named_store, is_within, is_weight_limit, has_plain_start, is_group_number, usual_settings, settings_said, start_said, command_of_two, command_of_ship, command_of_limit, command_of_three, command_of_four, command_of_init, command_line_of, command_line, IsLimited};
+ghost use Rattle.nx_front.specs.CommandLine.{is_store, is_named_store, is_within, is_weight_limit, has_plain_start, is_group_number, usual_settings, settings_said, start_said, command_of_two, command_of_ship, are_workers, command_of_ask, command_of_limit, command_of_three, command_of_four, command_of_init, command_line_of, command_line, IsLimited};
 
 use nx_lists::NoMemory;
 use nx_pyx::position;
@@ -19,6 +19,9 @@ const TARGET: u32 = 50;
 const GREATEST_SEED: u32 = 2_147_483_647;
 
 const MOST_ELEMENTS: u32 = 100_000;
+
+// How many workers there are at most.
+const MOST_WORKERS: u32 = 64;
 
 // A command line.
 #[derive(Clone, Copy)]
@@ -43,6 +46,8 @@ pub enum CommandLine {
     Ship(Start),
     // A stream of groups is applied to a store.
     Apply,
+    // Questions of a script are answered over a snapshot of a store, by so many workers.
+    Ask(u32),
 }
 
 // The command line that the words are, if they are one.
@@ -193,9 +198,31 @@ fn command_of_three(store: &str, command: &str, word: &str) -> Option<CommandLin
 {
     if command == "ship" {
         command_of_ship(store, word)
+    } else if command == "ask" {
+        command_of_ask(store, word)
     } else {
         command_of_limit(store, command, word)
     }
+}
+
+// The command line of a store, `ask` and this word.
+fn command_of_ask(store: &str, word: &str) -> Option<CommandLine>
+    ensures line { result ≡ command_of_ask store.now word.now }
+    ensures limit { IfSome result IsLimited }
+{
+    if !is_named_store(store) {
+        return None;
+    }
+    let workers = workers_of(word)?;
+    Some(CommandLine::Ask(workers))
+}
+
+// How many workers there are, if the word says it.
+fn workers_of(word: &str) -> Option<u32>
+    ensures said { MatchOption result (are_workers word.now ≡ false) (λ n. (are_workers word.now ≡ true) × (n ≡ value_of word.now)) }
+    ensures limit { IfSome result (λ n. (1 ≤ n) × (n ≤ 64)) }
+{
+    number_within(word, 1, MOST_WORKERS)
 }
 
 // The command line of a store, `ship` and this word.
@@ -245,7 +272,7 @@ fn has_plain_start(digits: &[u8]) -> bool
     }
 }
 
-// The command line of a store, a command that isn't `ship`, and what a part weighs at most.
+// The command line of a store, a command that is neither `ship` nor `ask`, and what a part weighs at most.
 fn command_of_limit(store: &str, command: &str, limit: &str) -> Option<CommandLine>
     ensures line { result ≡ command_of_limit store.now command.now limit.now }
     ensures limit { IfSome result IsLimited }

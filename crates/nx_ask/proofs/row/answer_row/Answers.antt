@@ -1,4 +1,4 @@
-use Rattle.std.proofs.Common.{◌+◌, [], List, take, sym, subst}
+use Rattle.std.proofs.Common.{◌≡◌, ◌+◌, ◌<◌, ◌≤◌, ℕ, [], ◌∷◌, List, length, take, sym, ap, ◌∙◌, subst, arith, length-append}
 use Rattle.std.specs.Prelude.{Some, IsSome}
 use Rattle.std.specs.List.{AllZip}
 use Rattle.std.proofs.lemmas.List.{take_all}
@@ -16,18 +16,26 @@ use Rattle.nx_ask.proofs.RowLemmas.{zip_more, not_asked_of}
 use Rattle.nx_ask.proofs.row.answer_row.Goals as goal
 
 pub loop-place-init : goal.loop-place-init
-loop-place-init g c told was settled state recovers = (
-  c.in_ok-store.ensures.ok was settled state recovers,
-  subst (λ (l : List Reply). AllZip (Asked state) [] l) (sym c.in-Ok.ensures.items) tt,
-)
+loop-place-init g c = record {
+  within = omega arith;
+  many = ap length c.in-Ok.ensures.items;
+  so_far = λ told was settled state recovers. (c.in_ok-store.ensures.ok was settled state recovers, subst (λ (l : List Reply). AllZip (Asked state) [] l) (sym c.in-Ok.ensures.items) tt);
+}
 
 pub loop-place-preserved : goal.loop-place-preserved
-loop-place-preserved g c told was settled state recovers =
-    let so_far = c.loop-place.invariant (c.ask-answered.ensures.told told) was settled state recovers in
-    let asked = c.in_ok-reply.ensures.ok told state so_far.0 in
-    let here = subst (λ (q : Command). Asked state q c.in_ok-reply.reply) c.index-questions-place.is asked.0 in
-    let more = zip_more (Asked state) c.args.questions.now c.loop-place.replies.items c.loop-place.place c.index-questions-place.result c.in_ok-reply.reply so_far.1 c.loop-place-test.true here in
-    (asked.1, subst (λ (l : List Reply). AllZip (Asked state) (take (c.loop-place.place + 1) c.args.questions.now) l) (sym c.in-Ok-push.ensures.items) more)
+loop-place-preserved g c =
+    let low : c.loop-place.place < length c.args.questions.now = c.loop-place-test.true in
+    let many : length c.loop-place.replies.items ≡ c.loop-place.place = c.loop-place.invariant.many in
+    record {
+      within = omega (arith, low);
+      many = ap length c.in-Ok-push.ensures.items ∙ length-append c.loop-place.replies.items (c.in_ok-reply.reply ∷ []) ∙ ap (λ (n : ℕ). n + 1) many;
+      so_far = λ told was settled state recovers.
+          let so_far = c.loop-place.invariant.so_far (c.ask-answered.ensures.told told) was settled state recovers in
+          let asked = c.in_ok-reply.ensures.ok told state so_far.0 in
+          let here = subst (λ (q : Command). Asked state q c.in_ok-reply.reply) c.index-questions-place.is asked.0 in
+          let more = zip_more (Asked state) c.args.questions.now c.loop-place.replies.items c.loop-place.place c.index-questions-place.result c.in_ok-reply.reply so_far.1 low here in
+          (asked.1, subst (λ (l : List Reply). AllZip (Asked state) (take (c.loop-place.place + 1) c.args.questions.now) l) (sym c.in-Ok-push.ensures.items) more);
+    }
 
 pub returns-in_err-reply-clause-refused : goal.returns-in_err-reply-clause-refused
 returns-in_err-reply-clause-refused g c =
@@ -36,9 +44,15 @@ returns-in_err-reply-clause-refused g c =
     c.in_err-reply.field-0.0 (err_from_is_err_and c.from_residual-in_err-reply.result c.from_residual-in_err-reply.ensures.1)
     (λ told was settled.
     not_asked_of (IsAt g.D.Disk c.loop-place.store c.loop-place.disk) (λ state. Recovers was (Some state)) c.in_err-reply.field-0.0
-    (λ state recovers. (c.loop-place.invariant (c.ask-answered.ensures.told told) was settled state recovers).0) (c.in_err-reply.ensures.refused told))
+    (λ state recovers. (c.loop-place.invariant.so_far (c.ask-answered.ensures.told told) was settled state recovers).0) (c.in_err-reply.ensures.refused told))
 
 pub returns-clause-ok : goal.returns-clause-ok
-returns-clause-ok g c told was settled state recovers =
-    subst (λ (l : List Command). AllZip (Asked state) l c.loop-place.replies.items) (take_all c.loop-place.place c.args.questions.now c.loop-place-test.false)
-    (c.loop-place.invariant told was settled state recovers).1
+returns-clause-ok g c told was settled =
+    let within : c.loop-place.place ≤ length c.args.questions.now = c.loop-place.invariant.within in
+    let high : length c.args.questions.now ≤ c.loop-place.place = c.loop-place-test.false in
+    let all : c.loop-place.place ≡ length c.args.questions.now = omega (arith, within, high) in (
+      c.loop-place.invariant.many ∙ all,
+      λ state recovers.
+          subst (λ (l : List Command). AllZip (Asked state) l c.loop-place.replies.items) (take_all c.loop-place.place c.args.questions.now c.loop-place-test.false)
+          (c.loop-place.invariant.so_far told was settled state recovers).1,
+    )

@@ -1,4 +1,4 @@
-use Rattle.std.proofs.Common.{take}
+use Rattle.std.proofs.Common.{◌≡◌, ◌≤◌, length, take}
 use Rattle.std.specs.Prelude.{Some, IsSome}
 use Rattle.std.specs.List.{AllZip}
 use Rattle.nx_host.specs.Disk.{Image}
@@ -11,5 +11,9 @@ use Rattle.nx_ask.proofs.row.answer_row.Given as goal
 
 abbrev pub invariant-loop-place : goal.invariant-loop-place
 invariant-loop-place g l =
-    IsSome (g.D.Disk.contents l.disk) → (was : Image) → IsSettled g.D.Disk l.fn.disk was → (state : State) → Recovers was (Some state)
-    → IsAt g.D.Disk l.store l.disk state × AllZip (Asked state) (take l.place l.questions) l.replies.items
+    record {
+      within : l.place ≤ length l.questions;
+      many : length l.replies.items ≡ l.place;
+      so_far : IsSome (g.D.Disk.contents l.disk) → (was : Image) → IsSettled g.D.Disk l.fn.disk was → (state : State) → Recovers was (Some state)
+          → IsAt g.D.Disk l.store l.disk state × AllZip (Asked state) (take l.place l.questions) l.replies.items;
+    }

@@ -1,8 +1,5 @@
-use Rattle.std.proofs.Common.{◌≡◌, ℕ, List, Option, Some, sym, ap, ◌∙◌, subst}
-use Rattle.nx_host.specs.Phase.{GivesAlone}
+use Rattle.std.proofs.Common.{◌≡◌, Some, sym, ap, ◌∙◌, subst}
 use Rattle.nx_filters.specs.declared.status.Status.{Status}
-use Rattle.nx_filters.specs.declared.status.Status.TheVariants.{Refused}
-use Rattle.nx_front.specs.Init.{SaysLine}
 use Rattle.nx_front.specs.Applied.{ReceivesGroups}
 use Rattle.nx_front.specs.Endings.{turned_away_line}
 use Rattle.nx_front.proofs.AppliedLemmas.{receives_as, receives_refused, receives_starved}
@@ -21,4 +18,4 @@ returns-in-Err g c = receives_starved c.apply-ended.result c.apply-ended.ensures
 pub returns-in_default : goal.returns-in_default
 returns-in_default g c =
     subst (λ (s : Status). ReceivesGroups g.H.Disk s c.args.host.now c.apply-ended.new.host) (sym c.applying_status.ensures)
-    (receives_as c.apply-ended.result c.apply-ended.ensures)
+    (receives_as c.apply-ended.result c.in_default.ensures c.apply-ended.ensures)

@@ -1,8 +1,6 @@
 use Rattle.std.proofs.Common.{◌+◌, ◌<◌, ◌≤◌, ◌++◌, ℕ, List, Err, length, drop, ap, sym, subst}
 use Rattle.std.proofs.lemmas.Result.{err_from_is_err_and}
-use Rattle.nx_host.specs.Phase.{GivesAlone}
 use Rattle.nx_filters.specs.declared.give.GiveError.TheVariants.{NoMemory}
-use Rattle.nx_filters.specs.Outcome.{Given}
 use Rattle.nx_filters.proofs.GiveLemmas.{given_nothing, gave_rest, left_is, giving_more, giving_stops, giving_alone, alone_rest}
 use Rattle.nx_front.specs.Finding.{found_text}
 use Rattle.nx_front.proofs.FindingLemmas.{path_at, found_filled, found_last}

@@ -1,7 +1,6 @@
-use Rattle.std.proofs.Common.{◌≡◌, Result, true, subst, sym, ap, ◌∙◌}
-use Rattle.std.specs.Str.Parse.{ParsesUnsigned}
+use Rattle.std.proofs.Common.{◌≡◌, true, sym, ap, ◌∙◌}
 use Rattle.nx_front.specs.CommandLine.{has_plain_start}
-use Rattle.nx_front.proofs.CommandLineLemmas.{number_read, number_unread, number_not_plain}
+use Rattle.nx_front.proofs.CommandLineLemmas.{number_read, number_unread}
 use Rattle.nx_front.proofs.words.group_number.Goals as goal
 
 pub returns-in-Ok : goal.returns-in-Ok
