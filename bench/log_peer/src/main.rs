@@ -1,14 +1,17 @@
 //! The driver of natix's log without proofs: the commands `create`, `fill` and `open` of
-//! `nx_wal_driver`, which write the same bytes with the same syncs.
+//! `nx_wal_driver`, and `natix STORE apply`, which write the same bytes with the same syncs.
 
 use std::collections::BTreeMap;
 use std::env;
 use std::fs::{File, OpenOptions};
-use std::io::{self, ErrorKind, Write};
+use std::io::{self, ErrorKind, Read, Write};
 use std::os::unix::fs::FileExt;
 
 const PAGE: usize = 8_192;
 const MOST_PAGES: u32 = 16_777_216;
+
+/// Above so many bytes of the log a checkpoint comes before a group of a stream.
+const LONG_LOG: u64 = 67_108_864;
 
 /// The two files of a store, and where the pages of its log stand.
 struct Store {
@@ -124,16 +127,21 @@ impl Store {
 
     /// Commits a group of these pages, whose numbers rise.
     fn commit(&mut self, number: u64, seed: u64, pages: &[u32]) -> io::Result<()> {
-        if !self.shut {
-            self.log.write_all_at(&[0], self.end)?;
-            self.log.sync_data()?;
-        }
         self.group.clear();
         self.group.extend(number.to_be_bytes());
         self.group.extend((pages.len() as u32).to_be_bytes());
         for &page in pages {
             self.group.extend(page.to_be_bytes());
             push_page(&mut self.group, seed, number, page);
+        }
+        self.write_group(pages)
+    }
+
+    /// Writes the group that is kept, of these pages, behind the others.
+    fn write_group(&mut self, pages: &[u32]) -> io::Result<()> {
+        if !self.shut {
+            self.log.write_all_at(&[0], self.end)?;
+            self.log.sync_data()?;
         }
         self.group.push(0);
         self.log.write_all_at(&self.group, self.end + 1)?;
@@ -146,6 +154,32 @@ impl Store {
         self.end += 13 + 8_196 * pages.len() as u64;
         self.shut = true;
         Ok(())
+    }
+
+    /// Takes the next group of a stream, and answers its number and those of its pages, or nothing where the
+    /// stream ends.
+    fn take_group(&mut self, input: &mut impl Read) -> io::Result<Option<(u64, Vec<u32>)>> {
+        let mut head = [0; 12];
+        if input.read(&mut head[..1])? == 0 {
+            return Ok(None);
+        }
+        input.read_exact(&mut head[1..])?;
+        let number = u64::from(number_at(&head)) << 32 | u64::from(number_at(&head[4..]));
+        let count = number_at(&head[8..]);
+        if count == 0 || count > MOST_PAGES {
+            return Err(invalid("a group has a page and not too many"));
+        }
+        self.group.clear();
+        self.group.extend(head);
+        let size = 8_196 * u64::from(count);
+        if input.take(size).read_to_end(&mut self.group)? as u64 != size {
+            return Err(invalid("a group isn't whole"));
+        }
+        let pages: Vec<u32> = self.group[12..].chunks(8_196).map(number_at).collect();
+        if pages.last() >= Some(&MOST_PAGES) || !pages.is_sorted_by(|one, other| one < other) {
+            return Err(invalid("the pages of a group rise"));
+        }
+        Ok(Some((number, pages)))
     }
 
     fn checkpoint(&mut self) -> io::Result<()> {
@@ -226,6 +260,20 @@ fn open(name: &str) -> io::Result<()> {
     io::stdout().write_all(line.as_bytes())
 }
 
+fn apply(name: &str) -> io::Result<()> {
+    let mut store = Store::open(name)?;
+    let mut input = io::stdin().lock();
+    let mut output = io::stdout();
+    while let Some((number, pages)) = store.take_group(&mut input)? {
+        if store.end > LONG_LOG {
+            store.checkpoint()?;
+        }
+        store.write_group(&pages)?;
+        output.write_all(format!("ok {number}\n").as_bytes())?;
+    }
+    Ok(())
+}
+
 fn main() -> io::Result<()> {
     let words: Vec<String> = env::args().skip(1).collect();
     let words: Vec<&str> = words.iter().map(String::as_str).collect();
@@ -237,8 +285,9 @@ fn main() -> io::Result<()> {
         [name, "create", ..] => create(name, number(2)? as u32, number(3)?),
         [name, "fill", ..] => fill(name, number(2)?, number(3)? as u32, number(4)?, number(5)?),
         [name, "open"] => open(name),
+        [name, "apply"] => apply(name),
         _ => Err(invalid(
-            "usage: log_peer STORE create PAGES [SEED] | fill GROUPS PAGES [EVERY [SEED]] | open",
+            "usage: log_peer STORE create PAGES [SEED] | fill GROUPS PAGES [EVERY [SEED]] | open | apply",
         )),
     }
 }

@@ -45,7 +45,10 @@ impl Records {
     }
 
     pub fn open(name: &str) -> Result<Records, Failure> {
-        let mut log = Log::open(name)?;
+        Records::over(Log::open(name)?)
+    }
+
+    pub fn over(mut log: Log) -> Result<Records, Failure> {
         let page = log.read(0)?.ok_or(Failure::NotAStore)?;
         let head = Header::read(page)?;
         Ok(Records::new(log, head))
