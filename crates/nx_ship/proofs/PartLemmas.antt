@@ -13,7 +13,7 @@ use Rattle.nx_host.specs.declared.disk.Disk.{Ghosts}
 use Rattle.nx_host.proofs.DiskLemmas.{settled_still}
 use Rattle.nx_replay.specs.Log.{Entry, Group, entry_bytes, group_bytes, groups}
 use Rattle.nx_wal.specs.Wal.{IsInStep}
-use Rattle.nx_wal.specs.Reading.{IsHeadFor, IsPartOf}
+use Rattle.nx_wal.specs.Reading.{IsHeadFor, ArePagesOf}
 use Rattle.nx_wal.specs.declared.reading.GroupHead.{GroupHead}
 use Rattle.nx_wal.specs.declared.wal.Wal.{Wal}
 use Rattle.nx_ship.specs.Sending.{Sends}
@@ -93,7 +93,7 @@ module _ {D : Type 0} {d : Ghosts D} where
 
   -- they were read, and sent
   pub part_sent : {wal : Wal} {p q : List ℕ} {a m c : D} (index first count : ℕ) (bytes : List ℕ) → IsStill d a m
-      → ((was : Image) → IsInStep d wal a was → (g : Group) → slice_get (groups was.log) index ≡ Some g → IsPartOf g first (entry_size * count) bytes) → SendsMore d bytes p q m c
+      → ((was : Image) → IsInStep d wal a was → (g : Group) → slice_get (groups was.log) index ≡ Some g → ArePagesOf g first (entry_size * count) bytes) → SendsMore d bytes p q m c
       → SendsPart d index first count wal p q a c
   part_sent {p = p} index first count bytes still read sends = record {
     bytes = bytes;
@@ -103,7 +103,7 @@ module _ {D : Type 0} {d : Ghosts D} where
 
   -- ... but not all of them
   pub part_cut : {wal : Wal} {p : List ℕ} {a m c : D} (index first count : ℕ) (bytes : List ℕ) → IsStill d a m
-      → ((was : Image) → IsInStep d wal a was → (g : Group) → slice_get (groups was.log) index ≡ Some g → IsPartOf g first (entry_size * count) bytes) → SendsSome d bytes p m c
+      → ((was : Image) → IsInStep d wal a was → (g : Group) → slice_get (groups was.log) index ≡ Some g → ArePagesOf g first (entry_size * count) bytes) → SendsSome d bytes p m c
       → StopsAtPart d index first count wal p a c
   part_cut {p = p} index first count bytes still read sends = record {
     bytes = bytes;

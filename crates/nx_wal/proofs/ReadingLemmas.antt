@@ -10,14 +10,14 @@ use Rattle.std.specs.Ordering.{nat_cmp}
 use Rattle.byteorder.specs.Endian.{big_number, big_bytes}
 use Rattle.byteorder.specs.Numbers.{big_from-take}
 use Rattle.std.proofs.lemmas.Nat.{be_bytes_4}
-use Rattle.nx_host.specs.Disk.{Image}
+use Rattle.nx_host.specs.Disk.{Image, AreBytes}
 use Rattle.std.specs.Option.{option_or}
 use Rattle.nx_replay.specs.Log.{Pages, replay, pages_of, Entry, Group, entries_in, entry_bytes, entry_pages, rise, logged, groups, groups_behind, end_of, group_page_count, group_size, group_of, is_group, HasMark, mark}
 use Rattle.nx_replay.proofs.GroupLemmas.{IsGroup, group_says, says_group, groups-first, groups-none, entries-prefix, number-prefix, prefix-drop, prefix-less, number-one, count-prefix, length-entries_in}
 use Rattle.nx_replay.proofs.StepLemmas.{drop_taken, end_more}
 use Rattle.nx_replay.proofs.ReplayLemmas.{logged-more, page-there}
 use Rattle.nx_wal.specs.declared.reading.Head.{Head}
-use Rattle.nx_wal.specs.Reading.{page_numbers, FillsPrefix, usable, IsHeadOf, IsHead, IsLogReadTo, IsRead, StandsAt, AreBytes, page_at}
+use Rattle.nx_wal.specs.Reading.{page_numbers, FillsPrefix, usable, IsHeadOf, IsHead, IsLogReadTo, IsRead, StandsAt, page_at}
 use Rattle.nx_wal.specs.Places.{Places, page_at_place, LeadsTo, Notes, AreWithin, starts_from}
 
 -- Numbers.

@@ -61,18 +61,14 @@ pub record IsRead (places : Places) (starts : List ℕ) (end : End) (log : List 
 pub record StandsAt (at : ℕ) (log : List ℕ) : Type 0 where
   pub group : is_group (drop at (usable log)) ≡ true
 
--- numbers that bytes can be
-abbrev pub AreBytes : List ℕ → Type 0
-AreBytes bytes = (i : ℕ) → slice_index bytes i < 256
-
 -- The number of the group, and how many pages it has.
 pub record IsHeadFor (group : Group) (head : GroupHead) : Type 0 where
   pub number : head.number ≡ group.number
   pub count : head.count ≡ length group.entries
 
 -- The bytes, with room for so many, are those of the group's pages from the one with this index on, as they stand in a log.
-abbrev pub IsPartOf : Group → ℕ → ℕ → List ℕ → Type 0
-IsPartOf group first room bytes =
+abbrev pub ArePagesOf : Group → ℕ → ℕ → List ℕ → Type 0
+ArePagesOf group first room bytes =
     (count : ℕ) → room ≡ entry_size * count → first + count ≤ length group.entries → bytes ≡ entry_bytes (take count (drop first group.entries))
 
 -- Why reading gave up: a call failed, or for want of memory.

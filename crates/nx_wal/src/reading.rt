@@ -1,11 +1,11 @@
 // Reading a log: its groups by their heads and page numbers.
 ghost use Rattle.std.specs.Prelude.{◌≡◌, [], Bool, ℕ, List, ◌+◌, ◌*◌, ◌/◌, ◌^◌, ◌<◌, ◌≤◌, ◌==◌, min, length, take, drop, slice_index, true, false, Some, None, IsSome, IfOk, IfErr, IfSome, IfNone, OnOk, OnErr, ◌↔◌};
-ghost use Rattle.nx_host.specs.Disk.{Image, area_of, Rose, given_at};
+ghost use Rattle.nx_host.specs.Disk.{Image, AreBytes, area_of, Rose, given_at};
 ghost use Rattle.nx_host.specs.Still.{IsStill};
 ghost use Rattle.nx_replay.specs.Log.{groups, replay, rise, entries_in, group_of, IsLogEnd, HasMark, mark};
 ghost use Rattle.nx_groups.specs.Groups.{entry, entries, logged_as};
 ghost use Rattle.byteorder.specs.Endian.{big_number};
-ghost use Rattle.nx_wal.specs.Reading.{FillsPrefix, IsHead, IsRead, FailsBy, IsNotOpened, page_numbers, page_at, StandsAt, usable, IsHeadFor, IsPartOf, AreBytes};
+ghost use Rattle.nx_wal.specs.Reading.{FillsPrefix, IsHead, IsRead, FailsBy, IsNotOpened, page_numbers, page_at, StandsAt, usable, IsHeadFor, ArePagesOf};
 ghost use Rattle.nx_wal.specs.Places.{Notes, AreWithin};
 ghost use Rattle.std.specs.BTreeMap.{IsEmpty, get};
 ghost use Rattle.std.specs.Ordering.{nat_cmp};
@@ -316,7 +316,7 @@ pub(crate) fn read_part<D: Disk>(
 ) -> Result<(), Failed>
     ensures still { IsStill D.Disk disk.old disk.new }
     ensures reads { D.reads disk.new ≤ D.reads disk.old + 1 }
-    ensures part { OnOk result ((was : Image) → D.contents disk.old ≡ Some was → StandsAt at was.log → IsPartOf (group_of (drop at (usable was.log))) first (length into.old) into.new) }
+    ensures part { OnOk result ((was : Image) → D.contents disk.old ≡ Some was → StandsAt at was.log → ArePagesOf (group_of (drop at (usable was.log))) first (length into.old) into.new) }
     ensures cause { OnErr result (Rose (D.faults disk.old) (D.faults disk.new)) }
 {
     let begin = at.saturating_add(13 + ENTRY_SIZE as u64 * (first as u64));

@@ -50,7 +50,7 @@ pub struct Wal {
 
 impl Wal {
     ghost use Rattle.nx_wal.specs.Wal.{Follows, IsInStep, IsPageCount, EndsWal, group_count, NoGroupRead, pending, current, next_group, wal_ended, length_of, PutsRecord, HasNoPageFor, ClearsRecord, HasNoneBeside, Refused, NoLogCreated, NoLogOpened};
-    ghost use Rattle.nx_wal.specs.Reading.{page_found, IsHeadFor, IsPartOf};
+    ghost use Rattle.nx_wal.specs.Reading.{page_found, IsHeadFor, ArePagesOf};
 
     /// A log over a disk that has no pages. Nothing is written.
     ///
@@ -417,7 +417,7 @@ impl Wal {
         ensures still { IsStill D.Disk disk.old disk.new }
         ensures reads { D.reads disk.new ≤ D.reads disk.old + 1 }
         ensures ok { OnOk result ((self.new ≡ self.old) × (wal_ended self.old ≡ false)
-            × ((was : Image) → IsInStep D.Disk self.old disk.old was → (g : LogGroup) → slice_get (groups was.log) index ≡ Some g → IsPartOf g first (length into.old) into.new)) }
+            × ((was : Image) → IsInStep D.Disk self.old disk.old was → (g : LogGroup) → slice_get (groups was.log) index ≡ Some g → ArePagesOf g first (length into.old) into.new)) }
         ensures refused { IfErr result (λ e. Refused D.Disk e self.old self.new disk.old disk.new) }
     {
         if self.ended {
