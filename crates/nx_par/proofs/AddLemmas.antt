@@ -1,5 +1,5 @@
 -- How a list of minima grows, by one tree after the other or by all at once.
-use Rattle.std.proofs.Common.{◌≡◌, ℕ, zero, suc, ◌+◌, ◌<◌, ◌≤◌, List, [], ◌∷◌, ◌++◌, length, take, drop, get_or, refl, sym, ap, subst, ◌∙◌, arith, append_assoc, length-append, length-take, length-drop, map, All, IfOk, OnOk, Ok, Err, Option, None, Some, IfSome}
+use Rattle.std.proofs.Common.{◌≡◌, ℕ, zero, suc, ◌+◌, ◌-◌, ◌<◌, ◌≤◌, List, [], ◌∷◌, ◌++◌, length, take, drop, get_or, refl, sym, ap, subst, ◌∙◌, arith, append_assoc, length-append, length-take, length-drop, map, All, IfOk, OnOk, Ok, Err, Option, None, Some, IfSome}
 use Rattle.std.specs.Prelude.{Result}
 use Rattle.std.specs.List.{AllZip}
 use Rattle.std.specs.Option.{option_map}
@@ -68,10 +68,17 @@ nodes_cut ts zero = omega arith
 nodes_cut [] (suc n) = omega arith
 nodes_cut (t ∷ ts) (suc n) = omega (arith, nodes_cut ts n)
 
-pub nodes_next : (ts : List OrderedTree) (i : ℕ) (t : OrderedTree) → drop i ts ≡ t ∷ drop (i + 1) ts → nodes (forest_of (drop i ts)) ≡ 1 + nodes t.below + nodes (forest_of (drop (i + 1) ts))
-nodes_next ts i t e = ap (λ l. nodes (forest_of l)) e
+-- the nodes of the trees from a place on are those of the tree there and of those behind it
+pub nodes_next : (ts : List OrderedTree) (i : ℕ) (t : OrderedTree) → i < length ts → t ≡ get_or ts i t → nodes (forest_of (drop i ts)) ≡ 1 + nodes t.below + nodes (forest_of (drop (suc i) ts))
+nodes_next [] i t lt is = absurd (omega arith)
+nodes_next (x ∷ ts) zero t lt is = ap (λ (u : OrderedTree). 1 + nodes u.below + nodes (forest_of ts)) (sym is)
+nodes_next (x ∷ ts) (suc i) t lt is = nodes_next ts i t (omega arith) is
 
-nodes_any : (ts : List OrderedTree) (n : ℕ) → n < length ts → 1 ≤ nodes (forest_of (drop n ts))
+-- where no tree has nodes below its root
+pub nodes_alone : (ts : List OrderedTree) (n : ℕ) → length ts ≡ nodes (forest_of ts) → n ≤ length ts → nodes (forest_of (drop n ts)) ≡ length ts - n
+nodes_alone ts n same le = omega (arith, same, le, nodes_cut ts n, length_nodes (take n ts), length_nodes (drop n ts), length-take n ts, length-drop n ts)
+
+pub nodes_any : (ts : List OrderedTree) (n : ℕ) → n < length ts → 1 ≤ nodes (forest_of (drop n ts))
 nodes_any [] n h = absurd (omega arith)
 nodes_any (t ∷ ts) zero h = omega arith
 nodes_any (t ∷ ts) (suc n) h = nodes_any ts n (omega arith)

@@ -1,19 +1,9 @@
--- Rows into which trees that stand beside each other are cut.
-use Rattle.std.specs.Prelude.{◌≡◌, ℕ, ◌+◌, ◌-◌, ◌<◌, ◌≤◌, List, [], ◌∷◌, take, drop, length}
+-- Two rows into which trees that stand beside each other are cut.
+use Rattle.std.specs.Prelude.{◌≡◌, ◌+◌, ◌<◌, ◌≤◌, List, drop, length}
 use Rattle.std.specs.Option.{option_map}
 use Rattle.nx_tree.specs.Forest.{OrderedTree, forest_of, nodes}
 use Rattle.nx_par.specs.declared.cut.Share.{Share}
 use Rattle.nx_par.specs.declared.cut.TwoRows.{TwoRows}
-use Rattle.nx_par.specs.declared.cut.Row.{Row}
-
--- the rows are those of the trees from one place to another, each one from the end of the one before on
-abbrev pub AreRows : ℕ → ℕ → List Row → Type 0
-AreRows from to [] = from ≡ to
-AreRows from to (row ∷ rows) = (row.from ≡ from) × (row.from ≤ row.to) × AreRows row.to to rows
-
--- the trees of a row
-abbrev pub trees_of_row : Row → List OrderedTree → List OrderedTree
-trees_of_row row trees = take (row.to - row.from) (drop row.from trees)
 
 -- the trees in two rows, neither of them empty, each with at least one worker and with its own numbers
 pub record AreTwo (share : Share) (trees : List OrderedTree) (two : TwoRows) : Type 0 where

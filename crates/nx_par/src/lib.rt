@@ -7,7 +7,6 @@
 mod all;
 mod cut;
 mod gate;
-mod many;
 mod planning;
 mod rows;
 mod settle;

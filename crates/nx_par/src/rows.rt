@@ -7,8 +7,7 @@ ghost use Rattle.nx_partition.specs.Bounding.{Extends};
 ghost use Rattle.nx_par.specs.Adding.{CanBound, CanBoundRow, ExtendsByAll, AreTwoToBound};
 
 use crate::Gate;
-use crate::cut::{FEW, Share, TwoRows, number_at, rows_of, two_rows};
-use crate::many::bound_many;
+use crate::cut::{FEW, Share, TwoRows, number_at, two_rows};
 use crate::settle::{UNKNOWN, settle};
 use nx_partition::{BoundError, Scratch, bound_tree};
 use nx_parts::Bound;
@@ -16,9 +15,6 @@ use nx_tree::{Tree, count};
 use nx_weights::weight;
 use std::alloc::Global;
 use std::thread::{Threads, join};
-
-/// The children of a node that has so many are shared out by `rayon`.
-pub const MANY: usize = 2048;
 
 /// The list with the minima of a tree's nodes behind what it has. The share is that of the children of the tree's root,
 /// which have numbers where the gate is told of them.
@@ -91,11 +87,6 @@ pub fn bound_rows<R: Threads + Sync, G: Gate>(
         end(gate, share.first);
         return added;
     }
-    if trees.len() >= MANY {
-        if let Some(rows) = rows_of(alloc, trees, share)? {
-            return bound_many(rt, alloc, trees, rows.as_slice(), k, list);
-        }
-    }
     let two = two_rows(trees, share);
     if two.at_once {
         bound_at_once(rt, alloc, trees, two, k, gate, list)
@@ -104,7 +95,8 @@ pub fn bound_rows<R: Threads + Sync, G: Gate>(
     }
 }
 
-// The same for trees that are cut into two rows: a thread bounds the first one while this one bounds the second.
+// The same for trees that are cut into two rows: a thread bounds the second one while this one goes on with the first. So one thread begins all that
+// bound rows of one worker: Linux puts those on processors of their own, and one that a new thread begins at once on the processor of that.
 #[cycle(halves)]
 fn bound_at_once<R: Threads + Sync, G: Gate>(
     rt: &R,
@@ -119,16 +111,16 @@ fn bound_at_once<R: Threads + Sync, G: Gate>(
     ensures { IfOk result (λ new. ExtendsByAll k trees.now list.items new.items) }
 {
     let (front, back) = trees.split_at(two.at);
-    let left = move || -> Result<Vec<Bound>, BoundError>
-        requires { IsSync R.row × IsSync G.row × CanBound k two.front front.now }
-        ensures { IfOk result (λ new. ExtendsByAll k front.entry.now list.items new.items) }
-    { bound_rows(rt, alloc, front, two.front, k, gate, list) };
     let more = Vec::with_capacity(alloc, two.back.nodes)?;
-    let right = move || -> Result<Vec<Bound>, BoundError>
+    let last = move || -> Result<Vec<Bound>, BoundError>
         requires { IsSync R.row × IsSync G.row × CanBound k two.back back.now × (more.items ≡ []) }
         ensures { IfOk result (λ new. ExtendsByAll k back.entry.now [] new.items) }
     { bound_rows(rt, alloc, back, two.back, k, gate, more) };
-    let (low, high) = join(rt, left, right);
+    let others = move || -> Result<Vec<Bound>, BoundError>
+        requires { IsSync R.row × IsSync G.row × CanBound k two.front front.now }
+        ensures { IfOk result (λ new. ExtendsByAll k front.entry.now list.items new.items) }
+    { bound_rows(rt, alloc, front, two.front, k, gate, list) };
+    let (high, low) = join(rt, last, others);
     let mut list = low?;
     list.extend_from_slice(high?.as_slice())?;
     Ok(list)

@@ -5,7 +5,7 @@ ghost use Rattle.nx_parts.specs.Minima.{AreMinima};
 ghost use Rattle.nx_partition.specs.Bounding.{Extends, IsPlanRefused};
 
 use crate::Gate;
-use crate::rows::{MANY, bound_one, share_below};
+use crate::rows::{bound_one, share_below};
 use crate::settle::{UNKNOWN, settle};
 use nx_partition::{BoundError, PlanError, refusal};
 use nx_parts::{Bound, Bounds};
@@ -22,7 +22,7 @@ use std::thread::Threads;
 /// bounded by a thread. Where a row has one tree and several workers, its children are cut in turn.
 /// Rows with few nodes get no thread of their own.
 ///
-/// Where the root element of a document has 2 to 2,047 children, the gate is told of each of them, by its position, unless a
+/// Where the root element of a document has at least two children, the gate is told of each of them, by its position, unless a
 /// node is too heavy or there is no memory.
 ///
 /// Errors: as of `nx_partition::bounds`.
@@ -107,8 +107,8 @@ fn bound_document<R: Threads + Sync, G: Gate>(
 fn told(tree: &Tree) -> Option<u32>
     ensures { IfSome result (λ number. number ≡ 0) }
 {
-    match tree.children.len() {
-        2..MANY => Some(0),
-        _ => None,
+    if tree.children.len() < 2 {
+        return None;
     }
+    Some(0)
 }

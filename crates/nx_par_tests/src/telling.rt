@@ -73,13 +73,12 @@ fn told<R: Threads + Abort + Sync>(
 fn each_child_of_the_root_element(rt: HostRuntime) -> Result<(), Fail> {
     told(&rt, rt.alloc(), 2, 2, 1)?;
     told(&rt, rt.alloc(), 7, 7, 21)?;
-    told(&rt, rt.alloc(), 2_047, 2_047, 2_094_081)
+    told(&rt, rt.alloc(), 2_050, 2_050, 2_100_225)
 }
 
-// One child, and so many that they have no gate.
+// No child, and one.
 #[test]
 fn no_other_node(rt: HostRuntime) -> Result<(), Fail> {
     told(&rt, rt.alloc(), 0, 0, 0)?;
-    told(&rt, rt.alloc(), 1, 0, 0)?;
-    told(&rt, rt.alloc(), 2_048, 0, 0)
+    told(&rt, rt.alloc(), 1, 0, 0)
 }

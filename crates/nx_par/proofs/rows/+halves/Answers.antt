@@ -59,19 +59,19 @@ pub bound_in_turn-returns : goal.bound_in_turn-returns
 bound_in_turn-returns g t c =
     IfOk-then c.bound_rows-2.result _ _ c.bound_rows-2.ensures (λ new e. extends_joined c.args.trees.now c.args.two.at c.split_at.ensures.front c.split_at.ensures.back c.in_ok-list.ensures e)
 
-pub bound_at_once-join-low-requires-after_bounds : goal.bound_at_once-join-low-requires-after_bounds
-bound_at_once-join-low-requires-after_bounds g t c κs within =
+pub bound_at_once-join-high-requires-after_bounds : goal.bound_at_once-join-high-requires-after_bounds
+bound_at_once-join-high-requires-after_bounds g t c κs within =
     let front = subst (CanBound c.args.k c.args.two.front) (sym c.split_at.ensures.front) c.requires.front in
     let fewer = fewer_front c.args.trees.now c.split_at.result.0.now c.args.two.at c.split_at.ensures.front c.requires.more in
     let back = subst (CanBound c.args.k c.args.two.back) (sym c.split_at.ensures.back) c.requires.back in
     let less = fewer_back c.args.trees.now c.split_at.result.1.now c.args.two.at c.split_at.ensures.back c.requires.some c.requires.more in (
-      (omega (arith, fewer), (λ a m. m, (λ a m. m, ((search (sendable, crosses) depth 40, search (sendable, crosses) depth 40, front), (search (sendable, crosses) depth 40, search (sendable, crosses) depth 40))))),
       (omega (arith, less), (λ a m. m, (λ a m. m, ((search (sendable, crosses) depth 40, search (sendable, crosses) depth 40, back, c.in_ok-more.ensures.items), (search (sendable, crosses) depth 40, search (sendable, crosses) depth 40))))),
+      (omega (arith, fewer), (λ a m. m, (λ a m. m, ((search (sendable, crosses) depth 40, search (sendable, crosses) depth 40, front), (search (sendable, crosses) depth 40, search (sendable, crosses) depth 40))))),
     )
 
 pub bound_at_once-returns : goal.bound_at_once-returns
 bound_at_once-returns g t c =
-    let front = rw c.in_ok-list.was at c.join-low.ensures.first in
-    let back = rw c.in_ok-high.was at c.join-low.ensures.second in
+    let front = rw c.in_ok-list.was at c.join-high.ensures.second in
+    let back = rw c.in_ok-high.was at c.join-high.ensures.first in
     rows_joined c.args.trees.now c.args.two.at c.in_ok-high.field-0.items c.split_at.ensures.front c.split_at.ensures.back front back
     (c.in_ok-extend_from_slice.ensures.items ∙ ap (λ (l : List Bound). c.in_ok-list.list.items ++ l) c.as_slice.ensures.value)

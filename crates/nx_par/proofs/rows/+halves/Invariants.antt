@@ -14,8 +14,8 @@ decreases-bound_at_once g l = 4 * nodes (forest_of l.trees.now) + 2
 abbrev pub decreases-bound_in_turn : goal.decreases-bound_in_turn
 decreases-bound_in_turn g l = 4 * nodes (forest_of l.trees.now) + 2
 
-abbrev pub decreases-bound_at_once-left : goal.decreases-bound_at_once-left
-decreases-bound_at_once-left g l = 4 * nodes (forest_of l.front.now) + 4
+abbrev pub decreases-bound_at_once-last : goal.decreases-bound_at_once-last
+decreases-bound_at_once-last g l = 4 * nodes (forest_of l.back.now) + 4
 
-abbrev pub decreases-bound_at_once-right : goal.decreases-bound_at_once-right
-decreases-bound_at_once-right g l = 4 * nodes (forest_of l.back.now) + 4
+abbrev pub decreases-bound_at_once-others : goal.decreases-bound_at_once-others
+decreases-bound_at_once-others g l = 4 * nodes (forest_of l.front.now) + 4

@@ -1,4 +1,4 @@
-use Rattle.std.proofs.Common.{◌≡◌, List, [], ◌∷◌, ◌++◌, ap, ◌∙◌, length, sym, subst, vec_len, arith}
+use Rattle.std.proofs.Common.{◌≡◌, List, [], ◌∷◌, ◌++◌, ap, ◌∙◌, length, subst, vec_len, arith}
 use Rattle.std.proofs.lemmas.List.{drop_all}
 use Rattle.nx_tree.specs.Forest.{OrderedTree, forest_of}
 use Rattle.nx_tree.proofs.TestLemmas.{next_left}
