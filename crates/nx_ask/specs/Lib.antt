@@ -3,4 +3,4 @@ pub mod Reading
 pub mod Snapshot
 pub mod Asked
 pub mod Errors
-pub mod Halves
+pub mod Cut

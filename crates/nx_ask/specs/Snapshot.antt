@@ -1,11 +1,12 @@
 -- What a snapshot has of a store, and why none is taken.
-use Rattle.std.specs.Prelude.{◌≡◌, Some}
+use Rattle.std.specs.Prelude.{◌≡◌, ℕ, ◌+◌, ◌*◌, ◌/◌, ◌≤◌, Some, length}
 use Rattle.nx_host.specs.Disk.{Image, Rose}
 use Rattle.nx_host.specs.declared.disk.Disk.{Ghosts}
 use Rattle.nx_host.specs.Still.{IsSettled}
+use Rattle.nx_numbers.specs.Sizes.{entry_size}
 use Rattle.nx_records.specs.Records.{HasHeader}
 use Rattle.nx_records.specs.Words.{replay}
-use Rattle.nx_wal.specs.Wal.{IsInStep}
+use Rattle.nx_wal.specs.Wal.{IsInStep, IsPageCount}
 use Rattle.nx_wal.specs.declared.wal.Wal.{Wal}
 use Rattle.nx_wal.specs.declared.error.WalError.{WalError}
 use Rattle.nx_wal.specs.declared.error.WalError.TheVariants as wal
@@ -23,6 +24,11 @@ snapshot_image snapshot = pages_alone snapshot.bytes.items
 -- A snapshot has the pages that the image stands for, each as it is there, and no others.
 abbrev pub HasPagesOf : Snapshot → Image → Type 0
 HasPagesOf snapshot was = replay (snapshot_image snapshot) ≡ replay was
+
+-- From a count of reads to another an image was read so often at most as taking a snapshot of it asks for: three times for each page with its number that the area of the log has room for, and four
+-- times besides, for the log; and once for each of its pages.
+abbrev pub ReadsSnapshot : Image → ℕ → ℕ → Type 0
+ReadsSnapshot was before after = (count : ℕ) → IsPageCount count (replay was) → after ≤ before + (3 * (length was.log / entry_size + 1) + 1) + count
 
 -- the image stands for no state
 abbrev pub HasNoState : Image → Type 0

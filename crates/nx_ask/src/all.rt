@@ -1,10 +1,10 @@
 // Questions over a snapshot.
-ghost use Rattle.std.specs.Prelude.{◌+◌, ◌^◌, ◌<◌, ◌≤◌, length, IfOk, IfErr};
+ghost use Rattle.std.specs.Prelude.{◌+◌, ◌-◌, ◌^◌, ◌<◌, ◌≤◌, length, IfOk, IfErr};
 ghost use Rattle.std.specs.Thread.{IsSync};
 ghost use Rattle.nx_state.specs.State.{State};
 ghost use Rattle.nx_ask.specs.Asked.{Asked, AreAsked, NotAsked, IsSnapshotOf};
 
-use crate::cut::cut_in_two;
+use crate::cut::before_last;
 use crate::disk::SnapshotDisk;
 use crate::row::{answer_over, answer_row};
 use crate::{AskError, Snapshot};
@@ -38,8 +38,8 @@ pub fn answer_one<R: Threads + Sync>(
 /// and there are fewer than 4,294,967,296 questions.
 ///
 /// The questions are cut into as many rows as there are workers, or into rows of one where there are fewer questions. The rows have
-/// the same number of questions but for one. Each row is answered by a thread, which opens a store of its own over the snapshot. The gate is told
-/// before and after each question, by its place.
+/// the same number of questions but for one. Each row is answered by a thread of its own, a single one by this thread, which opens a store of its
+/// own over the snapshot. The gate is told before and after each question, by its place.
 ///
 /// Errors: as `answer_one`.
 pub fn answer_all<R: Threads + Sync, G: Gate>(
@@ -59,13 +59,36 @@ pub fn answer_all<R: Threads + Sync, G: Gate>(
         return Ok(Replies::new(alloc));
     }
     let workers = workers.min(questions.len() as u32);
-    match answer_rows(rt, alloc, snapshot, questions, 0, workers, gate) {
+    match answer_by(rt, alloc, snapshot, questions, workers, gate) {
         Ok(replies) => Ok(Replies::from_vec(replies)),
         Err(error) => Err(error),
     }
 }
 
-// The replies to questions of which the first one has this number. They are cut into two rows as often as there are workers for both.
+// The same by this thread, or by one for each worker.
+fn answer_by<R: Threads + Sync, G: Gate>(
+    rt: &R,
+    alloc: Global,
+    snapshot: &Snapshot,
+    questions: &[Command],
+    workers: u32,
+    gate: &G,
+) -> Result<Vec<Reply>, AskError>
+    requires some { 1 ≤ workers }
+    requires few { length questions.now < 2 ^ 32 }
+    ensures ok { IfOk result (λ replies. AreAsked (IsSnapshotOf snapshot.now) questions.now replies.items) }
+    ensures refused { IfErr result (λ e. NotAsked (IsSnapshotOf snapshot.now) e) }
+{
+    if workers == 1 {
+        answer_alone(rt, alloc, snapshot, questions, 0, gate)
+    } else {
+        answer_rows(rt, alloc, snapshot, questions, 0, workers, gate)
+    }
+}
+
+// The replies to questions of which the first one has this number. The last row is answered by a thread, and this one goes on with the
+// questions before it. So it begins all threads itself and then waits: Linux puts threads that one thread begins on processors of their own,
+// and those that they begin in turn beside them on the same.
 #[cycle(rows)]
 fn answer_rows<R: Threads + Sync, G: Gate>(
     rt: &R,
@@ -76,29 +99,29 @@ fn answer_rows<R: Threads + Sync, G: Gate>(
     workers: u32,
     gate: &G,
 ) -> Result<Vec<Reply>, AskError>
-    requires some { 1 ≤ workers }
+    requires some { 1 ≤ length questions.now → 1 ≤ workers }
     requires few { first + length questions.now < 2 ^ 32 }
     ensures ok { IfOk result (λ replies. AreAsked (IsSnapshotOf snapshot.now) questions.now replies.items) }
     ensures refused { IfErr result (λ e. NotAsked (IsSnapshotOf snapshot.now) e) }
 {
-    if workers == 1 {
-        return answer_alone(rt, alloc, snapshot, questions, first, gate);
+    if questions.is_empty() {
+        return Ok(Vec::new(alloc));
     }
-    let cut = cut_in_two(questions.len(), workers);
-    let next = first + cut.at as u32;
-    let (front, back) = questions.split_at(cut.at);
-    let left = move || -> Result<Vec<Reply>, AskError>
-        requires { IsSync R.row × IsSync G.row × (1 ≤ cut.front) × (first + length front.now < 2 ^ 32) }
-        ensures { IfOk result (λ replies. AreAsked (IsSnapshotOf snapshot.entry.now) front.entry.now replies.items) × IfErr result (λ e. NotAsked (IsSnapshotOf snapshot.entry.now) e) }
-    { answer_rows(rt, alloc, snapshot, front, first, cut.front, gate) };
-    let right = move || -> Result<Vec<Reply>, AskError>
-        requires { IsSync R.row × IsSync G.row × (1 ≤ cut.back) × (next + length back.now < 2 ^ 32) }
+    let at = before_last(questions.len(), workers);
+    let next = first + at as u32;
+    let (front, back) = questions.split_at(at);
+    let last = move || -> Result<Vec<Reply>, AskError>
+        requires { IsSync R.row × IsSync G.row × (next + length back.now < 2 ^ 32) }
         ensures { IfOk result (λ replies. AreAsked (IsSnapshotOf snapshot.entry.now) back.entry.now replies.items) × IfErr result (λ e. NotAsked (IsSnapshotOf snapshot.entry.now) e) }
-    { answer_rows(rt, alloc, snapshot, back, next, cut.back, gate) };
-    let (low, high) = join(rt, left, right);
+    { answer_alone(rt, alloc, snapshot, back, next, gate) };
+    let others = move || -> Result<Vec<Reply>, AskError>
+        requires { IsSync R.row × IsSync G.row × (1 ≤ workers) × (1 ≤ length front.now → 1 ≤ workers - 1) × (first + length front.now < 2 ^ 32) }
+        ensures { IfOk result (λ replies. AreAsked (IsSnapshotOf snapshot.entry.now) front.entry.now replies.items) × IfErr result (λ e. NotAsked (IsSnapshotOf snapshot.entry.now) e) }
+    { answer_rows(rt, alloc, snapshot, front, first, workers - 1, gate) };
+    let (high, low) = join(rt, last, others);
     let mut replies = low?;
-    let mut others = high?;
-    let Ok(_) = replies.append(&mut others) else {
+    let mut more = high?;
+    let Ok(_) = replies.append(&mut more) else {
         return Err(AskError::Memory);
     };
     Ok(replies)

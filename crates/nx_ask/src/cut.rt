@@ -1,29 +1,14 @@
 // Where questions are cut.
-ghost use Rattle.std.specs.Prelude.{◌^◌, ◌<◌, ◌≤◌};
-ghost use Rattle.nx_ask.specs.Halves.{AreHalves};
+ghost use Rattle.std.specs.Prelude.{◌≡◌, ◌^◌, ◌<◌, ◌≤◌};
+ghost use Rattle.nx_ask.specs.Cut.{IsBeforeLast};
 
-/// Questions in two rows, each with workers of its own.
-#[derive(Clone, Copy)]
-pub struct Halves {
-    /// How many questions the first row has.
-    pub at: usize,
-    /// How many workers the first row has.
-    pub front: u32,
-    /// How many workers the second row has.
-    pub back: u32,
-}
-
-/// Shares workers out to two rows of questions, and the questions by these numbers. So each worker has as many questions at last
-/// as each other one, or one more, and none is without one where there are as many.
-pub fn cut_in_two(count: usize, workers: u32) -> Halves
+/// How many of so many questions stand before the last worker's row, by equal parts of the workers. So each row has as many questions at last
+/// as each other one, or one more, and none is empty where there are as many questions as workers.
+pub fn before_last(count: usize, workers: u32) -> usize
     requires few { count < 2 ^ 32 }
-    requires workers { 2 ≤ workers }
-    ensures { AreHalves count workers result }
+    requires workers { 1 ≤ workers }
+    ensures cut { IsBeforeLast count workers result }
+    ensures alone { workers ≡ 1 → result ≡ 0 }
 {
-    let front = workers / 2;
-    Halves {
-        at: count * front as usize / workers as usize,
-        front,
-        back: workers - front,
-    }
+    count * (workers as usize - 1) / workers as usize
 }

@@ -1,5 +1,5 @@
 // The pages of a store, read one after the other.
-ghost use Rattle.std.specs.Prelude.{◌≡◌, ◌+◌, false, [], IfOk, IfErr, OnOk};
+ghost use Rattle.std.specs.Prelude.{◌≡◌, ◌+◌, ◌≤◌, false, [], IfOk, IfErr, OnOk};
 ghost use Rattle.nx_host.specs.Disk.{Image};
 ghost use Rattle.nx_host.specs.Still.{IsStill};
 ghost use Rattle.nx_replay.specs.Log.{replay};
@@ -23,6 +23,7 @@ pub fn read_pages<D: Disk>(
     requires none { pending wal.old ≡ [] }
     ensures still { IsStill D.Disk disk.old disk.new }
     ensures ok { IfOk result (λ bytes. (was : Image) → IsInStep D.Disk wal.old disk.old was → AreFirstPages bytes.items count (replay was)) }
+    ensures reads { D.reads disk.new ≤ D.reads disk.old + count }
     ensures refused { IfErr result (λ e. NotCopied D.Disk e wal.old count disk.old disk.new) }
 {
     let Ok(mut bytes) = Vec::with_capacity(alloc, count as usize * PAGE_SIZE) else {
@@ -46,6 +47,7 @@ fn add_page<D: Disk>(
     ensures still { IsStill D.Disk disk.old disk.new }
     ensures same { OnOk result (wal.new ≡ wal.old) }
     ensures ok { OnOk result ((was : Image) → IsInStep D.Disk wal.old disk.old was → AddsPage (replay was) page bytes.old.items bytes.new.items) }
+    ensures reads { D.reads disk.new ≤ D.reads disk.old + 1 }
     ensures refused { IfErr result (λ e. NotCopied D.Disk e wal.old (page + 1) disk.old disk.new) }
 {
     let mut into = PageBytes {

@@ -1,10 +1,11 @@
 // The pages of a store at one moment.
-ghost use Rattle.std.specs.Prelude.{◌≡◌, [], false, IfOk, IfErr};
+ghost use Rattle.std.specs.Prelude.{◌≡◌, ℕ, ◌+◌, ◌≤◌, [], false, IfOk, IfErr};
 ghost use Rattle.nx_host.specs.Disk.{Image};
 ghost use Rattle.nx_host.specs.Still.{IsStill, IsSettled};
 ghost use Rattle.nx_records.specs.Records.{HasHeader};
-ghost use Rattle.nx_wal.specs.Wal.{wal_ended, pending, IsInStep};
-ghost use Rattle.nx_ask.specs.Snapshot.{HasPagesOf, NoSnapshot, NoSnapshotOf, opening_error};
+ghost use Rattle.nx_records.specs.Words.{replay};
+ghost use Rattle.nx_wal.specs.Wal.{wal_ended, pending, IsInStep, IsPageCount};
+ghost use Rattle.nx_ask.specs.Snapshot.{HasPagesOf, ReadsSnapshot, NoSnapshot, NoSnapshotOf, opening_error};
 
 use crate::AskError;
 use crate::reading::read_pages;
@@ -20,7 +21,7 @@ pub struct Snapshot {
 }
 
 impl Snapshot {
-    /// The pages that a disk stands for: as its log, else its pages area, has them. Each is read once and nothing is written.
+    /// The pages that a disk stands for: as its log, else its pages area, has them. The log is read by its heads and page numbers, and each page once. Nothing is written.
     /// All memory is taken at once, 8,192 bytes for each page.
     ///
     /// Errors: `NotAStore` exactly where page 0 is missing or doesn't begin with the eight bytes
@@ -28,6 +29,7 @@ impl Snapshot {
     pub fn take<D: Disk>(alloc: Global, disk: &mut D) -> Result<Snapshot, AskError>
         ensures still { IsStill D.Disk disk.old disk.new }
         ensures pages { IfOk result (λ snapshot. (was : Image) → IsSettled D.Disk disk.old was → HasHeader was × HasPagesOf snapshot was) }
+        ensures reads { (was : Image) → IsSettled D.Disk disk.old was → ReadsSnapshot was (D.reads disk.old) (D.reads disk.new) }
         ensures refused { IfErr result (λ e. NoSnapshot D.Disk e disk.old disk.new) }
     {
         match Wal::open(disk, alloc) {
@@ -43,6 +45,7 @@ fn keep<D: Disk>(alloc: Global, wal: Wal, disk: &mut D) -> Result<Snapshot, AskE
     requires none { pending wal ≡ [] }
     ensures still { IsStill D.Disk disk.old disk.new }
     ensures pages { IfOk result (λ snapshot. (was : Image) → IsInStep D.Disk wal disk.old was → HasPagesOf snapshot was) }
+    ensures reads { (was : Image) → IsInStep D.Disk wal disk.old was → (count : ℕ) → IsPageCount count (replay was) → D.reads disk.new ≤ D.reads disk.old + count }
     ensures refused { IfErr result (λ e. NoSnapshotOf D.Disk e wal disk.old disk.new) }
 {
     let mut wal = wal;

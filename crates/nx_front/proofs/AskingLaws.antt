@@ -1,6 +1,5 @@
 -- What holds of replies to questions of a script, apart from the code; and how a run of them ends where all is well.
-use Rattle.std.proofs.Common.{◌≡◌, ◌⊎◌, inl, inr, true, false, Bool, List, [], ◌∷◌, Option, None, Some, refl, sym, ap, ap₂, ◌∙◌, subst}
-use Rattle.std.specs.Bool.{MatchBool}
+use Rattle.std.proofs.Common.{◌≡◌, ◌⊎◌, inl, inr, false, List, [], ◌∷◌, Option, None, Some, refl, sym, ap, ap₂, ◌∙◌, subst}
 use Rattle.std.specs.Option.{MatchOption}
 use Rattle.std.specs.List.{AllZip, flat_map}
 use Rattle.std.proofs.lemmas.Bool.{false≢true}
@@ -12,12 +11,12 @@ use Rattle.nx_script.specs.declared.reply.ReplyError.{ReplyError}
 use Rattle.nx_script.specs.Reply.{reply_text}
 use Rattle.nx_state.specs.State.{State}
 use Rattle.nx_steps.specs.Answers.{Refuses}
-use Rattle.nx_steps.specs.Step.{may_need_room, FindsNoRoom, Step}
+use Rattle.nx_steps.specs.Step.{may_need_room, FindsNoRoom}
 use Rattle.nx_steps.specs.Refusal.{refusal}
 use Rattle.nx_ask.specs.Asked.{Asked}
 use Rattle.nx_filters.specs.declared.status.Status.{Status}
 use Rattle.nx_front.specs.Serving.{CompletesServing}
-use Rattle.nx_front.specs.Asking.{EndsAsking, IsAskedText, Asks, HasOneAskedText}
+use Rattle.nx_front.specs.Asking.{EndsAsking, Asks, HasOneAskedText}
 use Rattle.nx_front.proofs.ServingLaws.{ends_well, finds_none}
 
 -- a refusal, or an effect, is one reply

@@ -1,9 +1,9 @@
 -- A run of questions over a snapshot: batches that came, what is answered of them, and how it ends.
-use Rattle.std.proofs.Common.{◌≡◌, ◌⊎◌, inl, inr, ℕ, ◌+◌, ◌*◌, ◌<◌, ◌≤◌, List, [], ◌++◌, length, Option, None, Some, refl, sym, ap, ap₂, ◌∙◌, subst, arith, append_assoc, append-nil, length-append}
+use Rattle.std.proofs.Common.{◌≡◌, ℕ, ◌+◌, ◌*◌, List, [], ◌++◌, length, Option, Some, refl, sym, ap, ap₂, ◌∙◌, subst, arith, length-append}
 use Rattle.std.specs.List.{flat_map}
 use Rattle.std.proofs.lemmas.Grind.{flat_map-append}
 use Rattle.nx_host.specs.declared.disk.Disk.{Ghosts}
-use Rattle.nx_host.specs.Disk.{Image, Beside, Keeps, Rose}
+use Rattle.nx_host.specs.Disk.{Image, Beside, Keeps}
 use Rattle.nx_host.specs.Host.{Takes, IsAtEnd, Appends}
 use Rattle.nx_host.specs.Phase.{TakesAlone, GivesAlone}
 use Rattle.nx_host.specs.Still.{IsStill, IsSettled}
@@ -14,7 +14,6 @@ use Rattle.nx_records.specs.Records.{HasHeader}
 use Rattle.nx_replay.specs.Log.{Pages}
 use Rattle.nx_script.specs.declared.command.Command.{Command}
 use Rattle.nx_script.specs.declared.script.Script.{Script}
-use Rattle.nx_script.specs.Commands.{AreCommands}
 use Rattle.nx_script.specs.Script.{HasGivenIn, EndsIn}
 use Rattle.nx_script.specs.Reply.{reply_text}
 use Rattle.nx_state.specs.State.{State}
@@ -23,11 +22,11 @@ use Rattle.nx_ask.specs.declared.error.AskError.{AskError}
 use Rattle.nx_ask.specs.declared.error.AskError.TheVariants as asking
 use Rattle.nx_ask.specs.declared.snapshot.Snapshot.{Snapshot}
 use Rattle.nx_ask.specs.Asked.{Asked, IsSnapshotOf}
-use Rattle.nx_ask.specs.Snapshot.{HasPagesOf, NoSnapshot}
+use Rattle.nx_ask.specs.Snapshot.{HasPagesOf, ReadsSnapshot, NoSnapshot}
 use Rattle.nx_ask.proofs.RowLemmas.{zip_joined}
 use Rattle.nx_filters.specs.declared.status.Status.{Status}
 use Rattle.nx_filters.specs.declared.status.Status.TheVariants.{Done, Usage, Refused, DiskFault, ReadFault, WriteFault, NoMemory, NotAStore, Damaged, TooMuch}
-use Rattle.nx_filters.specs.Outcome.{TakesFew, EndsWhole}
+use Rattle.nx_filters.specs.Outcome.{EndsWhole}
 use Rattle.nx_filters.proofs.OutcomeLemmas.{kept_appends, rose_since}
 use Rattle.nx_front.specs.Serving.{AreFirst, IsCaused, EndsWithoutHeader}
 use Rattle.nx_front.specs.Conversation.{IsEnded}
@@ -131,7 +130,7 @@ module _ {D : Type 0} {d : Ghosts D} where
 
   -- Before the first batch.
   pub asking_none : {snapshot : Snapshot} {script : Script} {a : D} → HasGivenIn script [] [] (d.beside a).input (d.beside a).input → IsAsking d snapshot [] [] script a a
-  asking_none {a = a} given = record { given = given; batches = (0, refl); gave = gives_nothing (d.beside a).output (d.beside a).output (keeps_self (d.beside a).output); goes = none_goes; areas = images_none; asked = λ state is. has_none }
+  asking_none {a = a} given = record { given = given; batches = (0, refl); gave = gives_nothing (d.beside a).output (d.beside a).output (keeps_self (d.beside a).output); goes = none_goes; areas = images_none; unread = refl; asked = λ state is. has_none }
 
   -- A batch more came, and is answered.
   pub asking_more : {snapshot : Snapshot} {taken more : List ℕ} {commands batch : List Command} {old new : Script} {first now mid next : D} → IsAsking d snapshot taken commands old first now →
@@ -144,6 +143,7 @@ module _ {D : Type 0} {d : Ghosts D} where
         (gives_kept (d.beside first).output (d.beside now).output (d.beside mid).output takes.output_stays asks.gave) answers.answers whole answers.gave;
     goes = goes_then (goes_then asks.goes (leaves_goes takes.areas)) (leaves_goes answers.alone.areas);
     areas = images_then (images_then asks.areas (images_beside takes.areas)) (images_beside answers.alone.areas);
+    unread = answers.alone.areas.reads_stay ∙ takes.areas.reads_stay ∙ asks.unread;
     asked = λ state is. has_more answers.text (has_taken (asks.asked state is) takes) (asked_text state is answers.answers) answers.gave answers.alone;
   }
 
@@ -166,6 +166,7 @@ module _ {D : Type 0} {d : Ghosts D} where
         bounded = few came;
         goes = goes_then (goes_then asks.goes (leaves_goes takes.areas)) (leaves_goes answers.alone.areas);
         areas = images_then (images_then asks.areas (images_beside takes.areas)) (images_beside answers.alone.areas);
+        unread = answers.alone.areas.reads_stay ∙ takes.areas.reads_stay ∙ asks.unread;
       }
 
   -- A batch came, and isn't given: writing failed ..
@@ -194,6 +195,7 @@ module _ {D : Type 0} {d : Ghosts D} where
         bounded = few came;
         goes = goes_then goes (leaves_goes breaks.alone.areas);
         areas = images_then (images_then asks.areas (images_beside takes.areas)) (images_beside breaks.alone.areas);
+        unread = breaks.alone.areas.reads_stay ∙ takes.areas.reads_stay ∙ asks.unread;
       }
 
   -- .. or it isn't answered
@@ -210,6 +212,7 @@ module _ {D : Type 0} {d : Ghosts D} where
     bounded = few given;
     goes = goes_then asks.goes (leaves_goes takes.areas);
     areas = images_then asks.areas (images_beside takes.areas);
+    unread = takes.areas.reads_stay ∙ asks.unread;
   }
   unanswered {first = first} {now = now} {mid = mid} batch (Damaged page) asks takes given stops = record {
     from = λ state is. absurd (stops state is);
@@ -219,6 +222,7 @@ module _ {D : Type 0} {d : Ghosts D} where
     bounded = few given;
     goes = goes_then asks.goes (leaves_goes takes.areas);
     areas = images_then asks.areas (images_beside takes.areas);
+    unread = takes.areas.reads_stay ∙ asks.unread;
   }
   unanswered batch Done asks takes given stops = absurd stops
   unanswered batch Usage asks takes given stops = absurd stops
@@ -265,6 +269,7 @@ module _ {D : Type 0} {d : Ghosts D} where
         bounded = few given;
         goes = goes_then asks.goes (leaves_goes takes.areas);
         areas = images_then asks.areas (images_beside takes.areas);
+        unread = takes.areas.reads_stay ∙ asks.unread;
       }
   asks_unread {taken = taken} {commands = commands} {first = first} {now = now} {mid = mid} TooMuch new asks takes stops =
       let (more, batch, fewer, long, given, all) = stops (d.beside first).input taken commands asks.given in
@@ -279,6 +284,7 @@ module _ {D : Type 0} {d : Ghosts D} where
         bounded = few given;
         goes = goes_then asks.goes (leaves_goes takes.areas);
         areas = images_then asks.areas (images_beside takes.areas);
+        unread = takes.areas.reads_stay ∙ asks.unread;
       }
   asks_unread {taken = taken} {commands = commands} {first = first} {now = now} {mid = mid} NoMemory new asks takes stops =
       let (more, took, short, are) = stops (d.beside first).input taken commands asks.given in
@@ -290,6 +296,7 @@ module _ {D : Type 0} {d : Ghosts D} where
         bounded = record { taken = taken ++ more; few = short; takes = took };
         goes = goes_then asks.goes (leaves_goes takes.areas);
         areas = images_then asks.areas (images_beside takes.areas);
+        unread = takes.areas.reads_stay ∙ asks.unread;
       }
   asks_unread Done new asks takes stops = absurd stops
   asks_unread Usage new asks takes stops = absurd stops
@@ -311,6 +318,7 @@ module _ {D : Type 0} {d : Ghosts D} where
     bounded = few asks.given;
     goes = asks.goes;
     areas = asks.areas;
+    unread = asks.unread;
   }
 
   -- It ends where nothing was taken, and the disk was asked alone.
@@ -337,6 +345,7 @@ module _ {D : Type 0} {d : Ghosts D} where
     bounded = few_nothing (d.beside a).input (d.beside a).input (keeps_self (d.beside a).input);
     goes = none_goes;
     areas = images_none;
+    unread = refl;
   }
 
 -- A snapshot wasn't taken:
@@ -360,13 +369,14 @@ module _ {D : Type 0} (d : Ghosts D) (a b : D) where
   untaken_header (asking.Damaged page) why was settled none = absurd (none (why was settled).0)
   untaken_header asking.Memory why was settled none = tt
 
-  pub asks_untaken : (e : AskError) → IsStill d a b → NoSnapshot d e a b → Asks d (status_of_asking e) a b
-  asks_untaken e still why = record {
+  pub asks_untaken : (e : AskError) → IsStill d a b → ((was : Image) → IsSettled d a was → ReadsSnapshot was (d.reads a) (d.reads b)) → NoSnapshot d e a b → Asks d (status_of_asking e) a b
+  asks_untaken e still reads why = record {
     from = untaken_from e still why;
     cause = untaken_cause e why;
     between = λ ends_so. gives_nothing (d.beside a).output (d.beside b).output still.beside_stays.output;
     untaken = λ is. still;
     no_header = λ was settled none. (untaken_header e why was settled none, still);
+    once = reads;
     contents_stay = keeps_same (d.contents a) (d.contents b) still.contents_stay;
     images_stay = still.images_stay;
     time = elapsed_weaker still.time (λ s h. h.1);
@@ -429,9 +439,9 @@ module _ {D : Type 0} {d : Ghosts D} where
   taken_cause Usage still took all cause = absurd cause
   taken_cause Refused still took all cause = absurd cause
 
-  pub asks_taken : {a b c : D} {snapshot : Snapshot} (status : Status) → IsStill d a b → ((was : Image) → IsSettled d a was → HasHeader was × HasPagesOf snapshot was) →
-      AsksAll d snapshot status b c → Asks d status a c
-  asks_taken {a = a} {b = b} {c = c} {snapshot = snapshot} status still took all =
+  pub asks_taken : {a b c : D} {snapshot : Snapshot} (status : Status) → IsStill d a b → ((was : Image) → IsSettled d a was → ReadsSnapshot was (d.reads a) (d.reads b)) →
+      ((was : Image) → IsSettled d a was → HasHeader was × HasPagesOf snapshot was) → AsksAll d snapshot status b c → Asks d status a c
+  asks_taken {a = a} {b = b} {c = c} {snapshot = snapshot} status still reads took all =
       let goes = goes_then (still_goes still) all.goes in
       let areas = images_then (images_still still) all.areas in
       record {
@@ -440,6 +450,7 @@ module _ {D : Type 0} {d : Ghosts D} where
         between = λ ends_so. gives_after (d.beside a).output (d.beside b).output (d.beside c).output still.beside_stays.output (all.between ends_so);
         untaken = λ is. absurd (all.taken is);
         no_header = λ was settled none. absurd (none (took was settled).0);
+        once = λ was settled. subst (λ (n : ℕ). ReadsSnapshot was (d.reads a) n) (sym all.unread) (reads was settled);
         contents_stay = areas.contents_stay;
         images_stay = areas.images_stay;
         time = areas.time;

@@ -15,6 +15,7 @@ use Rattle.nx_script.specs.Reply.{reply_text}
 use Rattle.nx_state.specs.State.{State}
 use Rattle.nx_state.specs.Stands.{Recovers}
 use Rattle.nx_ask.specs.Asked.{Asked}
+use Rattle.nx_ask.specs.Snapshot.{ReadsSnapshot}
 use Rattle.nx_filters.specs.declared.status.Status.{Status}
 use Rattle.nx_filters.specs.declared.status.Status.TheVariants.{Done, Usage, Refused, DiskFault, ReadFault, WriteFault, NoMemory, NotAStore, Damaged, TooMuch}
 use Rattle.nx_filters.specs.Outcome.{TakesFew, CountsGrow, EndsWhole}
@@ -80,13 +81,14 @@ EndsBetweenBatches TooMuch = Unit {0}
 EndsBetweenBatches _ = ⊥
 
 -- How questions are answered over a snapshot: from each state that the disk may hold; and why it ends so in any case. Whatever the disk holds, nothing of a batch is out whose questions weren't all answered, a fault
--- of the disk comes before anything is taken or given, and both areas stay as they were, at every moment.
+-- of the disk comes before anything is taken or given, the areas are read for one snapshot alone, and both stay as they were, at every moment.
 pub record Asks {D : Type 0} (d : Ghosts D) (status : Status) (old new : D) : Type 0 where
   pub from : (was : Image) (state : State) → IsSettled d old was → Recovers was (Some state) → AsksFrom d state status old new
   pub cause : IsCaused d status old new
   pub between : EndsBetweenBatches status → GivesBatches (d.beside old).output (d.beside new).output
   pub untaken : status ≡ DiskFault → IsStill d old new
   pub no_header : (was : Image) → IsSettled d old was → (HasHeader was → ⊥) → EndsWithoutHeader status × IsStill d old new
+  pub once : (was : Image) → IsSettled d old was → ReadsSnapshot was (d.reads old) (d.reads new)
   pub contents_stay : Keeps (d.contents old) (d.contents new)
   pub images_stay : (i : Image) → d.may_leave new i ↔ d.may_leave old i
   pub time : Elapses d.moment d.stood_since old new (λ s. d.may_leave old s.image)

@@ -101,21 +101,23 @@ pub record HasAsked {D : Type 0} (d : Ghosts D) (state : State) (commands : List
   pub gave : Appends text (d.beside first).output (d.beside now).output
   pub time : Elapses d.moment d.stood_since first now (ShowsPart (d.beside first).output text)
 
--- The script gave these commands of the bytes that were taken, in whole batches, and each of them was answered.
+-- The script gave these commands of the bytes that were taken, in whole batches, and each of them was answered. Neither area was read for it.
 pub record IsAsking {D : Type 0} (d : Ghosts D) (snapshot : Snapshot) (taken : List ℕ) (commands : List Command) (script : Script) (first now : D) : Type 0 where
   pub given : HasGivenIn script taken commands (d.beside first).input (d.beside now).input
   pub batches : AreBatches commands
   pub gave : GivesBatches (d.beside first).output (d.beside now).output
   pub goes : IsLater d first now
   pub areas : LeavesImages d first now
+  pub unread : d.reads now ≡ d.reads first
   pub asked : (state : State) → IsSnapshotOf snapshot state → HasAsked d state commands first now
 
--- How it ends: from the state of which the snapshot is; and why in any case.
+-- How it ends: from the state of which the snapshot is; and why in any case. Neither area was read.
 pub record AsksAll {D : Type 0} (d : Ghosts D) (snapshot : Snapshot) (status : Status) (first now : D) : Type 0 where
   pub from : (state : State) → IsSnapshotOf snapshot state → AsksFrom d state status first now
   pub cause : IsEnded d status first now
   pub between : EndsBetweenBatches status → GivesBatches (d.beside first).output (d.beside now).output
   pub taken : status ≡ DiskFault → ⊥
+  pub unread : d.reads now ≡ d.reads first
   pub bounded : TakesFew (d.beside first).input (d.beside now).input
   pub goes : IsLater d first now
   pub areas : LeavesImages d first now

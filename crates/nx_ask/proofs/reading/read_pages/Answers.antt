@@ -11,6 +11,7 @@ pub loop-page-init : goal.loop-page-init
 loop-page-init g c = record {
   same = refl;
   still = none_still;
+  reads = omega arith;
   pages = λ was step. no_pages _ (replay was) c.in-Ok.ensures.items;
 }
 
@@ -18,6 +19,7 @@ pub loop-page-preserved : goal.loop-page-preserved
 loop-page-preserved g c = record {
   same = c.in_ok-add_page.ensures.same ∙ c.loop-page.invariant.same;
   still = still_then c.loop-page.invariant.still c.add_page.ensures.still;
+  reads = let so_far = c.loop-page.invariant.reads in omega (arith, so_far, c.add_page.ensures.reads);
   pages = λ was step. one_page_more _ _ c.loop-page.page (replay was) (c.loop-page.invariant.pages was step)
       (c.in_ok-add_page.ensures.ok was (in_step_on c.loop-page.invariant.still c.loop-page.invariant.same step));
 }

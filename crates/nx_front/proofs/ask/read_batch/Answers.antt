@@ -1,12 +1,12 @@
-use Rattle.std.proofs.Common.{◌≡◌, ◌+◌, ◌<◌, ◌≤◌, ℕ, List, [], ◌∷◌, ◌++◌, length, Err, Option, Some, sym, ap, subst, arith, length-append}
+use Rattle.std.proofs.Common.{◌≡◌, ◌+◌, ◌<◌, ◌≤◌, ℕ, List, [], ◌∷◌, ◌++◌, length, Err, Option, sym, ap, subst, arith, length-append}
 use Rattle.std.specs.Vec.{vec_len}
 use Rattle.std.proofs.lemmas.Result.{err_from_is_err_and}
 use Rattle.nx_host.proofs.PhaseLemmas.{takes_then}
 use Rattle.nx_script.specs.declared.command.Command.{Command}
-use Rattle.nx_script.specs.Script.{HasGivenIn, GivesNext}
+use Rattle.nx_script.specs.Script.{GivesNext}
 use Rattle.nx_front.specs.Asking.{batch_size}
 use Rattle.nx_front.specs.Batches.{GivesBesides}
-use Rattle.nx_front.proofs.BatchLemmas.{gives_none, gives_more, reads_last, reads_whole, reading_starved, reading_stops}
+use Rattle.nx_front.proofs.BatchLemmas.{gives_none, gives_more, reads_last, reading_starved, reading_stops}
 use Rattle.nx_front.proofs.ask.read_batch.Goals as goal
 
 pub returns-in_default-clause-err : goal.returns-in_default-clause-err

@@ -1,4 +1,8 @@
+use Rattle.std.proofs.Common.{◌+◌, ◌*◌, ◌/◌, ◌≤◌, length, subst, arith}
+use Rattle.std.specs.Prelude.{Option, IfSome}
 use Rattle.std.proofs.lemmas.Result.{IfOk-weaker, IfErr-weaker}
+use Rattle.nx_host.specs.Disk.{Image}
+use Rattle.nx_numbers.specs.Sizes.{entry_size}
 use Rattle.nx_ask.proofs.SnapshotLemmas.{not_taken}
 use Rattle.nx_ask.proofs.snapshot.Snapshot.take.Goals as goal
 
@@ -9,3 +13,10 @@ returns-in-Ok-clause-pages g c =
 pub returns-in-Ok-clause-refused : goal.returns-in-Ok-clause-refused
 returns-in-Ok-clause-refused g c =
     IfErr-weaker c.keep.result _ _ (λ e h. not_taken g.D.Disk e c.in-Ok.wal c.args.disk.now c.open.new.disk c.keep.new.disk c.open.ensures.still c.in-Ok.ensures.ok h) c.keep.ensures.refused
+
+pub returns-in-Ok-clause-reads : goal.returns-in-Ok-clause-reads
+returns-in-Ok-clause-reads g c was settled count is =
+    let d = g.D.Disk in
+    let opened = subst (λ (o : Option Image). IfSome o (λ image. d.reads c.open.new.disk ≤ d.reads c.args.disk.now + (3 * (length image.log / entry_size + 1) + 1))) settled.here c.in-Ok.ensures.reads in
+    let kept = c.keep.ensures.reads was (c.in-Ok.ensures.ok was settled).0 count is in
+    omega (arith, opened, kept)
