@@ -1,6 +1,6 @@
 -- What each call of a receiver does to what it applies.
 use Rattle.std.proofs.Common.{◌≡◌, ◌⊎◌, ℕ, ◌<◌, ◌≤◌, true, false, List, [], ◌∷◌, ◌++◌, length, Option, None, Some, refl, sym, ap, subst, ◌∙◌, arith, inl, inr}
-use Rattle.std.specs.Prelude.{IsSome}
+use Rattle.std.specs.Prelude.{IsSome, Result, Ok, Err, IfErr, OnOk}
 use Rattle.std.proofs.lemmas.Bool.{false≢true}
 use Rattle.nx_host.specs.Disk.{Image, Keeps}
 use Rattle.nx_host.specs.Host.{Appends}
@@ -10,7 +10,7 @@ use Rattle.nx_host.specs.declared.disk.Disk.{Ghosts}
 use Rattle.nx_host.proofs.DiskLemmas.{settled_kept}
 use Rattle.nx_replay.specs.Log.{Pages, Entry, Group, over, entry_pages, replay, Stays, HasSame, HasGroup}
 use Rattle.nx_replay.specs.Log as log
-use Rattle.nx_wal.specs.Wal.{Follows, IsInStep, length_of, pending, next_group, Refused}
+use Rattle.nx_wal.specs.Wal.{Follows, IsInStep, length_of, pending, next_group, wal_ended, Refused}
 use Rattle.nx_wal.specs.declared.error.WalError.{WalError}
 use Rattle.nx_wal.specs.declared.error.WalError.TheVariants as wal_error
 use Rattle.nx_ship.specs.Faults.{error_of_log}
@@ -28,8 +28,6 @@ use Rattle.nx_ship.proofs.EntryLemmas.{header_before, differ}
 use Rattle.nx_ship.proofs.SendLemmas.{appends_kept, appends_none, rose_since}
 use Rattle.nx_ship.proofs.SendingLemmas.{told_before}
 use Rattle.nx_host.proofs.OutputLemmas.{appends_then}
-use Rattle.nx_groups.specs.declared.group.GroupPage.{GroupPage}
-use Rattle.nx_groups.specs.Groups.{entry}
 use Rattle.nx_ship.specs.Reading.{AreUnderWay}
 
 kept_first : (x : List ℕ) (a b c : Option (List ℕ)) → Keeps a b → Appends x b c → Appends x a c
@@ -78,24 +76,24 @@ module _ {D : Type 0} {d : Ghosts D} where
 
   -- One call after another:
 
-  pub begun_keeps : {old mid new : Receiver} {a b c : D} (page : GroupPage) → is_next_number old.last old.reader.number ≡ true → BeginsGroup d old mid a b → LeavesStream old mid → WaitsPage d page mid new b c
+  pub begun_keeps : {old mid new : Receiver} {a b c : D} (page : Entry) → is_next_number old.last old.reader.number ≡ true → BeginsGroup d old mid a b → LeavesStream old mid → WaitsPage d page mid new b c
       → KeepsPage d page old new a c
   begun_keeps {old = old} page next begins stays keeps start first groups es under applying =
-      keeps start first groups es (subst (λ r. AreUnderWay r.number (es ++ entry page ∷ [])) (sym stays.reader) under)
-      (begins start first groups es (λ some. header_before old.reader.number es (entry page ∷ []) some under.header) next applying)
+      keeps start first groups es (subst (λ r. AreUnderWay r.number (es ++ page ∷ [])) (sym stays.reader) under)
+      (begins start first groups es (λ some. header_before old.reader.number es (page ∷ []) some under.header) next applying)
 
   -- A page more:
 
-  pub puts_page : {old new : Receiver} {a : D} (page : GroupPage) → LeavesStream old new → ((log : List ℕ) → Follows old.wal log → Follows new.wal log)
-      → entry_pages (pending new.wal) ≡ over (entry_pages (entry page ∷ [])) (entry_pages (pending old.wal)) → WaitsPage d page old new a a
+  pub puts_page : {old new : Receiver} {a : D} (page : Entry) → LeavesStream old new → ((log : List ℕ) → Follows old.wal log → Follows new.wal log)
+      → entry_pages (pending new.wal) ≡ over (entry_pages (page ∷ [])) (entry_pages (pending old.wal)) → WaitsPage d page old new a a
   puts_page page stays follows puts start first groups es under applying = record {
-    knows = kept_page (entry page) stays puts under applying.knows;
+    knows = kept_page page stays puts under applying.knows;
     shows = λ dense told. let (applied, up) = applying.shows dense told in (applied, as_ready (λ any. tt) (followed follows up));
   }
 
-  pub passes_page : {r : Receiver} {a : D} (page : GroupPage) → is_next_number r.last r.reader.number ≡ false → KeepsPage d page r r a a
+  pub passes_page : {r : Receiver} {a : D} (page : Entry) → is_next_number r.last r.reader.number ≡ false → KeepsPage d page r r a a
   passes_page page not_next start first groups es under applying = record {
-    knows = passed_page (entry page) not_next applying.knows;
+    knows = passed_page page not_next applying.knows;
     shows = λ dense told. let (applied, up) = applying.shows dense told in (applied, as_ready (λ ready. absurd (false≢true (sym not_next ∙ ready.1))) up);
   }
 
@@ -220,6 +218,16 @@ log_fault d old new a b wal_error.Ended refused = tt
 log_fault d old new a b wal_error.Exists refused = tt
 log_fault d old new a b wal_error.NotAStore refused = tt
 log_fault d old new a b wal_error.Memory refused = tt
+
+-- no page waits behind a checkpoint, nor behind one that was refused
+pub none_waits : {D : Type 0} (d : Ghosts D) (old new : Wal) (a b : D) (result : Result (Unit {0}) WalError) → pending old ≡ [] → OnOk result ((length_of new ≡ 0) × (pending new ≡ []) × (wal_ended old ≡ false) × (wal_ended new ≡ false))
+    → IfErr result (λ e. Refused d e old new a b) → pending new ≡ []
+none_waits d old new a b (Ok x) none (length_none, empty, before, after) refused = empty
+none_waits d old new a b (Err wal_error.Disk) none empty refused = (refused.1).pending_stays ∙ none
+none_waits d old new a b (Err wal_error.Ended) none empty (ended, same, kept) = ap (λ (w : Wal). pending w) same ∙ none
+none_waits d old new a b (Err wal_error.Exists) none empty refused = absurd refused
+none_waits d old new a b (Err wal_error.NotAStore) none empty refused = absurd refused
+none_waits d old new a b (Err wal_error.Memory) none empty refused = absurd refused
 
 pub fault_later : {D : Type 0} (d : Ghosts D) (a b c : D) (e : ShipError) → LeavesInput d a b → IsTakeFault d e b c → IsTakeFault d e a c
 fault_later d a b c error.Disk leaves fault = rose_since (d.faults a) (d.faults b) (d.faults c) leaves.faults_later fault

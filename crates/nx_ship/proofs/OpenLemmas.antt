@@ -21,7 +21,7 @@ use Rattle.nx_wal.specs.declared.error.WalError.TheVariants as wal_error
 use Rattle.nx_ship.specs.Faults.{error_of_input, error_of_log}
 use Rattle.nx_ship.specs.Stream.{IsGood, IsPartOfGroup, Begins, stream_length}
 use Rattle.nx_ship.specs.declared.reader.Reader.{Reader}
-use Rattle.nx_ship.specs.Reading.{HoldsPart}
+use Rattle.nx_ship.specs.Reading.{HoldsPart, unit_of}
 use Rattle.nx_ship.specs.Sent.{IsFault, IsHeadless, IsBarred}
 use Rattle.nx_ship.specs.Applying.{groups_in, IsApplyCause, EndsApplying, AppliesTo, IsUnapplied, ReceivesStream}
 use Rattle.nx_ship.specs.Receiving.{HasApplied, Receives, ReceivesSome, HasOpened, EndsAt, EndsStream, EndsReceiving, TakesInput}
@@ -112,7 +112,7 @@ pub held_part : (r : Reader) (held : List ℕ) (es : List Entry) → HoldsPart r
 held_part r held es holds =
     elim (zero_or_more r.count) [
       | inl none ↦
-          let long : length held ≡ length r.unit.items = ap (λ (b : List ℕ). length b) (holds.head none).same in
+          let long : length held ≡ length (unit_of r) = ap (λ (b : List ℕ). length b) (holds.head none).same in
           let short = holds.short_head none in
           inl (omega (arith, long, short))
       | inr some ↦

@@ -1,18 +1,16 @@
 -- What a reader holds of a stream that comes in pieces.
 use Rattle.std.proofs.Common.{◌≡◌, ◌⊎◌, ℕ, zero, suc, ◌+◌, ◌-◌, ◌*◌, ◌<◌, ◌≤◌, true, List, [], ◌∷◌, ◌++◌, length, take, drop, refl, sym, ap, subst, ◌∙◌, arith, inl, inr}
-use Rattle.std.proofs.Common.{length-append, length-drop}
-use Rattle.std.proofs.lemmas.List.{drop-drop, take_at, take_all, drop_all, take-append-le, drop-append-le, append-nil, length-take-le}
+use Rattle.std.proofs.Common.{length-append, length-drop, append_assoc}
+use Rattle.std.proofs.lemmas.List.{drop-drop, take_at, take_all, drop_all, take-append-le, drop-append-le, append-nil, length-take-le, take-append-drop, take_rest}
 use Rattle.std.proofs.lemmas.Bool.{and_parts, and_from, leb-true, le-leb, ltb-true, lt-ltb}
 use Rattle.std.specs.Prelude.{min}
 use Rattle.byteorder.specs.Endian.{big_number}
 use Rattle.byteorder.specs.Numbers.{big_from-append}
 use Rattle.nx_replay.specs.Log.{Entry, Group, entries_in, rise}
 use Rattle.nx_replay.proofs.GroupLemmas.{entries-prefix, zero_or_more}
-use Rattle.nx_groups.specs.declared.group.GroupPage.{GroupPage}
-use Rattle.nx_groups.specs.Groups.{entry}
 use Rattle.nx_ship.specs.Stream.{count_in, size_with, group_in, BeginsWithHeader, IsGood, Begins}
 use Rattle.nx_ship.specs.declared.reader.Reader.{Reader}
-use Rattle.nx_ship.specs.Reading.{least_behind, AreUnderWay, HoldsPart, HoldsHead, HoldsPages, HasFed, IsSpoilt, TakesHead, TakesPage, MayFollow, page_in}
+use Rattle.nx_ship.specs.Reading.{Grows, unit_of, page_of, least_behind, AreUnderWay, HoldsPart, HoldsHead, HoldsPages, HasFed, IsSpoilt, TakesHead, TakesPage, MayFollow, page_in}
 
 -- More bytes behind bytes.
 
@@ -128,14 +126,90 @@ begins-before (h ∷ gs) g bytes rest a =
     let more = begins-before gs g (drop (size_with (count_in bytes)) bytes) rest a.2 in
     record { rest = more.rest; begins = (a.0, a.1, more.begins); good = more.good; is = more.is }
 
--- The unit grows.
+-- The unit: what was taken of a head, or of a page with its number.
 
-pub record Grows (x : List ℕ) (old new : Reader) : Type 0 where
-  pub unit : new.unit.items ≡ old.unit.items ++ x
-  pub number : new.number ≡ old.number
-  pub count : new.count ≡ old.count
-  pub taken : new.taken ≡ old.taken
-  pub least : new.least ≡ old.least
+pub length-unit : (r : Reader) → length (unit_of r) ≡ length r.front.items + r.filled
+length-unit r =
+    let whole = r.whole in
+    let within = r.within in
+    length-append r.front.items (take r.filled r.page.bytes)
+    ∙ ap (λ (n : ℕ). length r.front.items + n) (length-take-le r.filled r.page.bytes (omega (arith, whole, within)))
+
+-- the page in it
+pub page_whole : (front page : List ℕ) (filled : ℕ) → length front ≡ 4 → filled ≡ 8192 → length page ≡ 8192
+    → page_in (front ++ take filled page) ≡ record { page = big_number 4 front; bytes = page }
+page_whole front page filled first full long =
+    let taken : take filled page ≡ page = take_all filled page (omega (arith, full, long)) in
+    let behind : drop 4 (front ++ take filled page) ≡ page =
+    drop-append-le 4 front (take filled page) (omega (arith, first)) ∙ ap (λ (x : List ℕ). x ++ take filled page) (drop_all 4 front (omega (arith, first))) ∙ taken in
+    let number : big_number 4 (front ++ take filled page) ≡ big_number 4 front = number-append 4 front (take filled page) (omega (arith, first)) in
+    let bytes : take 8192 (drop 4 (front ++ take filled page)) ≡ page = ap (λ (x : List ℕ). take 8192 x) behind ∙ take_all 8192 page (omega (arith, long)) in
+    λ i. record { page = number i; bytes = bytes i }
+
+-- bytes that go to what stands before a page, and those that go to the page
+pub unit_grows : (front held bytes : List ℕ) (k : ℕ) → (held ≡ []) ⊎ (k ≡ 0) → (front ++ take k bytes) ++ (held ++ drop k bytes) ≡ (front ++ held) ++ bytes
+unit_grows front held bytes k (inl none) =
+    ap (λ (h : List ℕ). (front ++ take k bytes) ++ (h ++ drop k bytes)) none
+    ∙ append_assoc front (take k bytes) (drop k bytes)
+    ∙ ap (λ (b : List ℕ). front ++ b) (take-append-drop k bytes)
+    ∙ ap (λ (f : List ℕ). f ++ bytes) (sym (append-nil front))
+    ∙ ap (λ (h : List ℕ). (front ++ h) ++ bytes) (sym none)
+unit_grows front held bytes k (inr none) =
+    ap (λ (n : ℕ). (front ++ take n bytes) ++ (held ++ drop n bytes)) none
+    ∙ ap (λ (f : List ℕ). f ++ (held ++ bytes)) (append-nil front)
+    ∙ sym (append_assoc front held bytes)
+
+-- the bytes behind so many
+pub rest_long : (k : ℕ) (bytes : List ℕ) → length (take (length bytes - k) (drop k bytes)) ≡ length bytes - k
+rest_long k bytes = ap (λ (x : List ℕ). length x) (take_rest bytes k) ∙ length-drop k bytes
+
+pub grown_unit : (old : Reader) (front page bytes : List ℕ) (k : ℕ) → front ≡ old.front.items ++ take k bytes
+    → take (old.filled + length (take (length bytes - k) (drop k bytes))) page ≡ take old.filled old.page.bytes ++ take (length bytes - k) (drop k bytes)
+    → (take old.filled old.page.bytes ≡ []) ⊎ (k ≡ 0) → front ++ take (old.filled + (length bytes - k)) page ≡ unit_of old ++ bytes
+grown_unit old front page bytes k first behind one =
+    ap (λ (f : List ℕ). f ++ take (old.filled + (length bytes - k)) page) first
+    ∙ ap (λ (n : ℕ). (old.front.items ++ take k bytes) ++ take (old.filled + n) page) (sym (rest_long k bytes))
+    ∙ ap (λ (x : List ℕ). (old.front.items ++ take k bytes) ++ x) (behind ∙ ap (λ (x : List ℕ). take old.filled old.page.bytes ++ x) (take_rest bytes k))
+    ∙ unit_grows old.front.items (take old.filled old.page.bytes) bytes k one
+
+-- of so many bytes this many go before the page
+module _ (r : Reader) (n k : ℕ) (number : 0 < r.count → k ≡ min (4 - length r.front.items) n) where
+  pub page_fits : (r.count ≡ 0 → k ≡ n) → (0 < r.count → n ≤ 8196 - length (unit_of r)) → r.filled + (n - k) ≤ 8192
+  page_fits head fits =
+      let within = r.within in
+      elim (zero_or_more r.count) [
+        | inl none ↦ let all = head none in omega (arith, within, all)
+        | inr some ↦
+            let room = fits some in
+            let first = number some in
+            let long = length-unit r in
+            let short = r.number_short some in
+            elim (zero_or_more r.filled) [
+              | inl empty ↦ omega (arith, room, first, long, short, empty)
+              | inr begun ↦ let full = r.number_first begun in omega (arith, room, first, long, full)
+            ]
+      ]
+
+  pub before_page : (take r.filled r.page.bytes ≡ []) ⊎ (k ≡ 0)
+  before_page =
+      elim (zero_or_more r.filled) [
+        | inl empty ↦ inl (ap (λ (m : ℕ). take m r.page.bytes) empty)
+        | inr begun ↦
+            inr (elim (zero_or_more r.count) [
+              | inl none ↦ absurd (let empty = r.head none in omega (arith, empty, begun))
+              | inr some ↦ let first = number some in let full = r.number_first begun in omega (arith, first, full)
+            ])
+      ]
+
+-- a page that is whole
+pub page_in_unit : (r : Reader) → 0 < r.count → 8196 ≤ length (unit_of r) → page_in (unit_of r) ≡ page_of (big_number 4 r.front.items) r
+page_in_unit r some whole =
+    let long = length-unit r in
+    let within = r.within in
+    let short = r.number_short some in
+    page_whole r.front.items r.page.bytes r.filled (omega (arith, long, within, short, whole)) (omega (arith, long, within, short, whole)) r.whole
+
+-- The unit grows.
 
 pub grown_head : {x held : List ℕ} {es : List Entry} {old new : Reader} → Grows x old new → HoldsHead old held es → HoldsHead new (held ++ x) es
 grown_head {x = x} grows is = record { same = ap (λ (b : List ℕ). b ++ x) is.same ∙ sym grows.unit; none = is.none }
@@ -143,9 +217,9 @@ grown_head {x = x} grows is = record { same = ap (λ (b : List ℕ). b ++ x) is.
 pub grown_pages : {x held : List ℕ} {es : List Entry} {old new : Reader} → Grows x old new → HoldsPages old held es → HoldsPages new (held ++ x) es
 grown_pages {x = x} {held = held} {es = es} {old = old} {new = new} grows is =
     let k = old.taken in
-    let long : length held ≡ size_with k + length old.unit.items = is.long in
+    let long : length held ≡ size_with k + length (unit_of old) = is.long in
     let same : new.taken ≡ k = grows.taken in
-    let unit : length new.unit.items ≡ length old.unit.items + length x = ap (λ (b : List ℕ). length b) grows.unit ∙ length-append old.unit.items x in
+    let unit : length (unit_of new) ≡ length (unit_of old) + length x = ap (λ (b : List ℕ). length b) grows.unit ∙ length-append (unit_of old) x in
     record {
       number = number-append 8 held x (omega (arith, long)) ∙ is.number ∙ sym grows.number;
       count = count-append held x (omega (arith, long)) ∙ is.count ∙ sym grows.count;
@@ -162,11 +236,11 @@ grown_pages {x = x} {held = held} {es = es} {old = old} {new = new} grows is =
 
 -- A head was taken.
 
-pub head_taken : {held : List ℕ} {es : List Entry} {mid new : Reader} → HoldsHead mid held es → length mid.unit.items ≡ 12 → TakesHead mid new → HoldsPages new held es
+pub head_taken : {held : List ℕ} {es : List Entry} {mid new : Reader} → HoldsHead mid held es → length (unit_of mid) ≡ 12 → TakesHead mid new → HoldsPages new held es
 head_taken {held = held} {es = es} {mid = mid} {new = new} is full takes =
     let none : es ≡ [] = is.none in
     let long : length held ≡ 12 = ap (λ (b : List ℕ). length b) is.same ∙ full in
-    let no_unit : length new.unit.items ≡ 0 = ap (λ (b : List ℕ). length b) takes.unit in
+    let no_unit : length (unit_of new) ≡ 0 = ap (λ (b : List ℕ). length b) takes.unit in
     let no_pages : new.taken ≡ 0 = takes.taken in
     let empty : length es ≡ 0 = ap (λ (x : List Entry). length x) none in
     record {
@@ -182,11 +256,11 @@ head_taken {held = held} {es = es} {mid = mid} {new = new} is full takes =
       header = λ some. absurd (omega (arith, some, empty));
     }
 
-pub head_refused : (more : List ℕ) {held : List ℕ} {es : List Entry} {mid : Reader} → HoldsHead mid held es → length mid.unit.items ≡ 12
-    → (1 ≤ count_in mid.unit.items → count_in mid.unit.items ≤ 16777216 → ⊥) → IsGood (held ++ more) → ⊥
+pub head_refused : (more : List ℕ) {held : List ℕ} {es : List Entry} {mid : Reader} → HoldsHead mid held es → length (unit_of mid) ≡ 12
+    → (1 ≤ count_in (unit_of mid) → count_in (unit_of mid) ≤ 16777216 → ⊥) → IsGood (held ++ more) → ⊥
 head_refused more {held = held} {mid = mid} is full refused good =
     let long : length held ≡ 12 = ap (λ (b : List ℕ). length b) is.same ∙ full in
-    let count : count_in (held ++ more) ≡ count_in mid.unit.items = count-append held more (omega (arith, long)) ∙ ap (λ (b : List ℕ). count_in b) is.same in
+    let count : count_in (held ++ more) ≡ count_in (unit_of mid) = count-append held more (omega (arith, long)) ∙ ap (λ (b : List ℕ). count_in b) is.same in
     let some = good.some in
     let few = good.few in
     refused (omega (arith, count, some)) (omega (arith, count, few))
@@ -197,23 +271,23 @@ no_pages_yet : (es : List Entry) → (es ≡ []) ⊎ (0 < length es)
 no_pages_yet [] = inl refl
 no_pages_yet (e ∷ es) = inr (omega arith)
 
-module _ {held : List ℕ} {es : List Entry} {mid : Reader} (is : HoldsPages mid held es) (full : length mid.unit.items ≡ 8196) where
-  page_stands : (more : List ℕ) → page_in (drop (8196 * mid.taken) (drop 12 (held ++ more))) ≡ page_in mid.unit.items
+module _ {held : List ℕ} {es : List Entry} {mid : Reader} (is : HoldsPages mid held es) (full : length (unit_of mid) ≡ 8196) where
+  page_stands : (more : List ℕ) → page_in (drop (8196 * mid.taken) (drop 12 (held ++ more))) ≡ page_in (unit_of mid)
   page_stands more =
       let k = mid.taken in
-      let long : length held ≡ size_with k + length mid.unit.items = is.long in
+      let long : length held ≡ size_with k + length (unit_of mid) = is.long in
       ap (λ (x : List ℕ). page_in x) (drop-drop (8196 * k) 12 (held ++ more) ∙ drop-append-le (size_with k) held more (omega (arith, long)) ∙ ap (λ (x : List ℕ). x ++ more) is.unit)
-      ∙ page-append mid.unit.items more (omega (arith, full))
+      ∙ page-append (unit_of mid) more (omega (arith, full))
 
   pages_stand : (more : List ℕ) → entries_in mid.taken (drop 12 (held ++ more)) ≡ es
   pages_stand more =
       let k = mid.taken in
-      let long : length held ≡ size_with k + length mid.unit.items = is.long in
+      let long : length held ≡ size_with k + length (unit_of mid) = is.long in
       ap (λ (b : List ℕ). entries_in k b) (drop-append-le 12 held more (omega (arith, long)))
       ∙ entries-append k (drop 12 held) more (omega (arith, long, length-drop 12 held)) ∙ is.pages
 
   -- the group's pages, so far and the next
-  split_at : (more : List ℕ) (m : ℕ) → (rest : List Entry) × (entries_in (mid.taken + suc m) (drop 12 (held ++ more)) ≡ es ++ page_in mid.unit.items ∷ rest)
+  split_at : (more : List ℕ) (m : ℕ) → (rest : List Entry) × (entries_in (mid.taken + suc m) (drop 12 (held ++ more)) ≡ es ++ page_in (unit_of mid) ∷ rest)
   split_at more m =
       let k = mid.taken in
       let bytes = drop 12 (held ++ more) in
@@ -223,39 +297,39 @@ module _ {held : List ℕ} {es : List Entry} {mid : Reader} (is : HoldsPages mid
             ∙ ap (λ (e : Entry). es ++ e ∷ rest) (page_stands more),
       )
 
-  pub page_refused : (more : List ℕ) → mid.taken < mid.count → (MayFollow mid (page_in mid.unit.items) → ⊥) → IsGood (held ++ more) → ⊥
+  pub page_refused : (more : List ℕ) → mid.taken < mid.count → (MayFollow mid (page_in (unit_of mid)) → ⊥) → IsGood (held ++ more) → ⊥
   page_refused more left refused good =
       let k = mid.taken in
-      let long : length held ≡ size_with k + length mid.unit.items = is.long in
+      let long : length held ≡ size_with k + length (unit_of mid) = is.long in
       let count : count_in (held ++ more) ≡ mid.count = count-append held more (omega (arith, long)) ∙ is.count in
       let m = mid.count - suc k in
       let here : count_in (held ++ more) ≡ k + suc m = omega (arith, count, left) in
       let split = split_at more m in
-      let all : entries_in (count_in (held ++ more)) (drop 12 (held ++ more)) ≡ es ++ page_in mid.unit.items ∷ split.0 =
+      let all : entries_in (count_in (held ++ more)) (drop 12 (held ++ more)) ≡ es ++ page_in (unit_of mid) ∷ split.0 =
       ap (λ (n : ℕ). entries_in n (drop 12 (held ++ more))) here ∙ split.1 in
-      let rises : rise 0 (es ++ page_in mid.unit.items ∷ split.0) ≡ true = sym (ap (λ (x : List Entry). rise 0 x) all) ∙ good.rises in
-      let last = rise_last es split.0 (page_in mid.unit.items) 0 rises in
+      let rises : rise 0 (es ++ page_in (unit_of mid) ∷ split.0) ≡ true = sym (ap (λ (x : List Entry). rise 0 x) all) ∙ good.rises in
+      let last = rise_last es split.0 (page_in (unit_of mid)) 0 rises in
       let number : big_number 8 (held ++ more) ≡ mid.number = number-append 8 held more (omega (arith, long)) ∙ is.number in
-      let header : BeginsWithHeader mid.number (es ++ page_in mid.unit.items ∷ split.0) =
-      subst (λ (n : ℕ). BeginsWithHeader n (es ++ page_in mid.unit.items ∷ split.0)) number (subst (λ (x : List Entry). BeginsWithHeader (big_number 8 (held ++ more)) x) all good.header) in
+      let header : BeginsWithHeader mid.number (es ++ page_in (unit_of mid) ∷ split.0) =
+      subst (λ (n : ℕ). BeginsWithHeader n (es ++ page_in (unit_of mid) ∷ split.0)) number (subst (λ (x : List Entry). BeginsWithHeader (big_number 8 (held ++ more)) x) all good.header) in
       refused (record {
         least = let l = is.least in let from = last.0 in omega (arith, l, from);
         low = last.1;
         header = λ none.
             elim (no_pages_yet es) [
-              | inl empty ↦ subst (λ (x : List Entry). BeginsWithHeader mid.number (x ++ page_in mid.unit.items ∷ split.0)) empty header
+              | inl empty ↦ subst (λ (x : List Entry). BeginsWithHeader mid.number (x ++ page_in (unit_of mid) ∷ split.0)) empty header
               | inr some ↦ absurd (let m = is.many in omega (arith, m, some, none))
             ];
       })
 
-  pub page_taken : {page : GroupPage} {new : Reader} → TakesPage page mid new → HoldsPages new held (es ++ entry page ∷ [])
+  pub page_taken : {page : Entry} {new : Reader} → TakesPage page mid new → HoldsPages new held (es ++ page ∷ [])
   page_taken {page = page} {new = new} takes =
       let k = mid.taken in
-      let e = entry page in
-      let long : length held ≡ size_with k + length mid.unit.items = is.long in
+      let e = page in
+      let long : length held ≡ size_with k + length (unit_of mid) = is.long in
       let count : new.taken ≡ k + 1 = takes.taken in
-      let no_unit : length new.unit.items ≡ 0 = ap (λ (b : List ℕ). length b) takes.unit in
-      let more : entries_in new.taken (drop 12 held) ≡ es ++ page_in mid.unit.items ∷ [] =
+      let no_unit : length (unit_of new) ≡ 0 = ap (λ (b : List ℕ). length b) takes.unit in
+      let more : entries_in new.taken (drop 12 held) ≡ es ++ page_in (unit_of mid) ∷ [] =
       ap (λ (n : ℕ). entries_in n (drop 12 held)) (let h : new.taken ≡ k + suc 0 = omega (arith, count) in h)
       ∙ ap (λ (b : List ℕ). entries_in (k + suc 0) (drop 12 b)) (sym (append-nil held))
       ∙ entries_split k 0 (drop 12 (held ++ []))
@@ -294,7 +368,7 @@ pub record IsAll (r : Reader) (held : List ℕ) (es : List Entry) : Type 0 where
   pub group : group_in held ≡ record { number = r.number; entries = es }
   pub behind : drop (size_with (count_in held)) held ≡ []
 
-pub all_taken : {r : Reader} {held : List ℕ} {es : List Entry} → HoldsPages r held es → r.taken ≡ r.count → 0 < r.count → r.unit.items ≡ [] → IsAll r held es
+pub all_taken : {r : Reader} {held : List ℕ} {es : List Entry} → HoldsPages r held es → r.taken ≡ r.count → 0 < r.count → unit_of r ≡ [] → IsAll r held es
 all_taken {r = r} {held = held} {es = es} is all some none =
     let count : count_in held ≡ r.taken = is.count ∙ sym all in
     let long = is.long in
@@ -315,7 +389,7 @@ all_taken {r = r} {held = held} {es = es} is all some none =
     }
 
 -- some bytes were taken
-pub head_long : {held : List ℕ} {es : List Entry} {mid : Reader} → HoldsHead mid held es → length mid.unit.items ≡ 12 → 0 < length held
+pub head_long : {held : List ℕ} {es : List Entry} {mid : Reader} → HoldsHead mid held es → length (unit_of mid) ≡ 12 → 0 < length held
 head_long is full = let long = ap (λ (b : List ℕ). length b) is.same in omega (arith, long, full)
 
 pub pages_long : {held : List ℕ} {es : List Entry} {mid : Reader} → HoldsPages mid held es → 0 < length held
@@ -348,8 +422,16 @@ read_group {mid = mid} {bytes = bytes} {x = x} {gs = gs} {fs = fs} was all holds
 -- How many bytes of a piece are taken.
 pub record IsTaken (r : Reader) (piece : List ℕ) (wanted taken : ℕ) : Type 0 where
   pub is : taken ≡ min wanted (length piece)
-  pub head : r.count ≡ 0 → length r.unit.items < 12 → wanted + length r.unit.items ≡ 12
-  pub page : 0 < r.count → length r.unit.items < 8196 → wanted + length r.unit.items ≡ 8196
+  pub head : r.count ≡ 0 → length (unit_of r) < 12 → wanted + length (unit_of r) ≡ 12
+  pub page : 0 < r.count → length (unit_of r) < 8196 → wanted + length (unit_of r) ≡ 8196
+
+pub taken_by : {r : Reader} {piece : List ℕ} {wanted taken : ℕ} → taken ≡ min wanted (length piece) → (r.count ≡ 0 → wanted ≡ 12 - length (unit_of r)) → (0 < r.count → wanted ≡ 8196 - length (unit_of r))
+    → IsTaken r piece wanted taken
+taken_by is head page = record {
+  is = is;
+  head = λ none short. let w = head none in omega (arith, w, short);
+  page = λ some short. let w = page some in omega (arith, w, short);
+}
 
 module _ {old mid : Reader} {piece : List ℕ} {wanted taken : ℕ} (is : IsTaken old piece wanted taken) (grows : Grows (take taken piece) old mid) where
   pub taken_fits : taken ≤ length piece
@@ -363,10 +445,10 @@ module _ {old mid : Reader} {piece : List ℕ} {wanted taken : ℕ} (is : IsTake
         | inr counted ↦ let short = holds.short_page counted in let w = is.page counted short in omega (arith, t, short, w, some)
       ]
 
-  unit_long : length mid.unit.items ≡ length old.unit.items + taken
+  unit_long : length (unit_of mid) ≡ length (unit_of old) + taken
   unit_long =
-      ap (λ (b : List ℕ). length b) grows.unit ∙ length-append old.unit.items (take taken piece)
-      ∙ ap (λ (n : ℕ). length old.unit.items + n) (length-take-le taken piece taken_fits)
+      ap (λ (b : List ℕ). length b) grows.unit ∙ length-append (unit_of old) (take taken piece)
+      ∙ ap (λ (n : ℕ). length (unit_of old) + n) (length-take-le taken piece taken_fits)
 
   pub fed_more : taken < wanted → (held : List ℕ) (es : List Entry) → HoldsPart old held es → HoldsPart mid (held ++ take taken piece) es
   fed_more less held es holds =
@@ -381,7 +463,7 @@ module _ {old mid : Reader} {piece : List ℕ} {wanted taken : ℕ} (is : IsTake
         short_page = λ some. let counted : 0 < old.count = omega (arith, some, count) in let short = holds.short_page counted in let w = is.page counted short in omega (arith, long, short, w, less);
       }
 
-  pub full_head : wanted ≤ taken → old.count ≡ 0 → (held : List ℕ) (es : List Entry) → HoldsPart old held es → HoldsHead mid (held ++ take taken piece) es × (length mid.unit.items ≡ 12)
+  pub full_head : wanted ≤ taken → old.count ≡ 0 → (held : List ℕ) (es : List Entry) → HoldsPart old held es → HoldsHead mid (held ++ take taken piece) es × (length (unit_of mid) ≡ 12)
   full_head full none held es holds =
       let short = holds.short_head none in
       let w = is.head none short in
@@ -390,7 +472,7 @@ module _ {old mid : Reader} {piece : List ℕ} {wanted taken : ℕ} (is : IsTake
       (grown_head grows (holds.head none), omega (arith, long, w, t, full))
 
   pub full_page : wanted ≤ taken → 0 < old.count → (held : List ℕ) (es : List Entry) → HoldsPart old held es
-      → HoldsPages mid (held ++ take taken piece) es × (length mid.unit.items ≡ 8196) × (mid.taken < mid.count)
+      → HoldsPages mid (held ++ take taken piece) es × (length (unit_of mid) ≡ 8196) × (mid.taken < mid.count)
   full_page full some held es holds =
       let short = holds.short_page some in
       let w = is.page some short in
@@ -402,7 +484,7 @@ module _ {old mid : Reader} {piece : List ℕ} {wanted taken : ℕ} (is : IsTake
       (grown_pages grows (holds.pages some), omega (arith, long, w, t, full), omega (arith, left, count, pages))
 
 -- A head was taken, and no page yet.
-pub begun : {held : List ℕ} {es : List Entry} {mid new : Reader} → HoldsHead mid held es → length mid.unit.items ≡ 12 → TakesHead mid new → HoldsPart new held es
+pub begun : {held : List ℕ} {es : List Entry} {mid new : Reader} → HoldsHead mid held es → length (unit_of mid) ≡ 12 → TakesHead mid new → HoldsPart new held es
 begun is full takes =
     let some = takes.some in
     let no_unit = ap (λ (b : List ℕ). length b) takes.unit in
@@ -416,7 +498,7 @@ begun is full takes =
     }
 
 -- A page was taken, and more are missing.
-pub gone_on : {held : List ℕ} {es : List Entry} {r : Reader} → HoldsPages r held es → r.taken < r.count → r.unit.items ≡ [] → HoldsPart r held es
+pub gone_on : {held : List ℕ} {es : List Entry} {r : Reader} → HoldsPages r held es → r.taken < r.count → unit_of r ≡ [] → HoldsPart r held es
 gone_on is left none =
     let no_unit = ap (λ (b : List ℕ). length b) none in
     record {
@@ -428,7 +510,7 @@ gone_on is left none =
     }
 
 -- Between groups.
-pub between : (r : Reader) → r.count ≡ 0 → r.unit.items ≡ [] → HoldsPart r [] []
+pub between : (r : Reader) → r.count ≡ 0 → unit_of r ≡ [] → HoldsPart r [] []
 between r no_count none =
     let no_unit = ap (λ (b : List ℕ). length b) none in
     record {

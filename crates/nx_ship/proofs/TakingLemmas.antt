@@ -8,8 +8,6 @@ use Rattle.nx_host.specs.declared.disk.Disk.{Ghosts}
 use Rattle.nx_replay.specs.Log.{Pages, Entry, Group}
 use Rattle.nx_replay.specs.Laws.{over_all}
 use Rattle.nx_wal.specs.declared.wal.Wal.{Wal}
-use Rattle.nx_groups.specs.declared.group.GroupPage.{GroupPage}
-use Rattle.nx_groups.specs.Groups.{entry}
 use Rattle.nx_ship.specs.Stream.{group_in, size_with, IsGood, Begins, stream_length}
 use Rattle.nx_ship.specs.declared.reader.Reader.{Reader}
 use Rattle.nx_ship.specs.Reading.{HasFed, AreUnderWay, IsSpoilt, TakesMore}
@@ -116,13 +114,13 @@ out_of_turn start taken rest gs left None number (error.Repeat n l) refuses at g
 out_of_turn start taken rest gs left None number (error.Gap n l) refuses at good is = absurd refuses
 
 -- The last page of a group waits.
-pub record HasKept {D : Type 0} (d : Ghosts D) (start : Pages) (first : D) (r : Receiver) (page : GroupPage) (taken : List ℕ) (gs : List Group) (es : List Entry) (now : D) : Type 0 where
-  pub read : HasFed r.reader taken (gs ++ record { number = r.reader.number; entries = es ++ entry page ∷ [] } ∷ []) []
-  pub under_way : AreUnderWay r.reader.number (es ++ entry page ∷ [])
-  pub many : length (es ++ entry page ∷ []) ≡ r.reader.taken
+pub record HasKept {D : Type 0} (d : Ghosts D) (start : Pages) (first : D) (r : Receiver) (page : Entry) (taken : List ℕ) (gs : List Group) (es : List Entry) (now : D) : Type 0 where
+  pub read : HasFed r.reader taken (gs ++ record { number = r.reader.number; entries = es ++ page ∷ [] } ∷ []) []
+  pub under_way : AreUnderWay r.reader.number (es ++ page ∷ [])
+  pub many : length (es ++ page ∷ []) ≡ r.reader.taken
   pub offset : r.offset ≡ stream_length gs
   pub few : length taken ≤ most_input
-  pub applying : IsApplying d start first r gs (es ++ entry page ∷ []) now
+  pub applying : IsApplying d start first r gs (es ++ page ∷ []) now
 
 some_kept : (es : List Entry) (e : Entry) → 0 < length (es ++ e ∷ [])
 some_kept es e = omega (arith, length-append es (e ∷ []))
@@ -168,40 +166,40 @@ module _ {D : Type 0} {d : Ghosts D} where
   }
 
   -- Its number refuses the group.
-  pub refused_number : {start : Pages} {first now : D} {r : Receiver} {page : GroupPage} {taken : List ℕ} {gs : List Group} {es : List Entry} (e : ShipError) → RefusesNumber r.last r.reader.number e
+  pub refused_number : {start : Pages} {first now : D} {r : Receiver} {page : Entry} {taken : List ℕ} {gs : List Group} {es : List Entry} (e : ShipError) → RefusesNumber r.last r.reader.number e
       → HasLast d start first r page taken gs es now → (behind : List ℕ) → AppliesTo d start (taken ++ behind) (Err e) first now
   refused_number {start = start} {now = now} {r = r} {page = page} {taken = taken} {gs = gs} {es = es} e refuses has behind =
-      let g : Group = record { number = r.reader.number; entries = es ++ entry page ∷ [] } in
+      let g : Group = record { number = r.reader.number; entries = es ++ page ∷ [] } in
       let b = begins-before gs g taken (has.read).held (has.read).begins in
       let same = good-append b.rest behind b.good in
       ended (taken ++ behind) (b.rest ++ behind) (Err e) (begins-append gs taken b.rest behind b.begins) has.applying
       (out_of_turn start (taken ++ behind) (b.rest ++ behind) gs (d.beside now).input r.last r.reader.number e refuses ((has.applying).knows).last same.good (ap (λ (x : Group). x.number) (b.is ∙ sym same.group)))
 
-  pub kept_last : {start : Pages} {first a b : D} {r k : Receiver} {page : GroupPage} {taken : List ℕ} {gs : List Group} {es : List Entry} → LeavesStream r k → KeepsPage d page r k a b
+  pub kept_last : {start : Pages} {first a b : D} {r k : Receiver} {page : Entry} {taken : List ℕ} {gs : List Group} {es : List Entry} → LeavesStream r k → KeepsPage d page r k a b
       → HasLast d start first r page taken gs es a → HasKept d start first k page taken gs es b
   kept_last {start = start} {first = first} {page = page} {taken = taken} {gs = gs} {es = es} stays keeps has = record {
-    read = subst (λ (x : Reader). HasFed x taken (gs ++ record { number = x.number; entries = es ++ entry page ∷ [] } ∷ []) []) (sym stays.reader) has.read;
-    under_way = subst (λ (x : Reader). AreUnderWay x.number (es ++ entry page ∷ [])) (sym stays.reader) has.under_way;
+    read = subst (λ (x : Reader). HasFed x taken (gs ++ record { number = x.number; entries = es ++ page ∷ [] } ∷ []) []) (sym stays.reader) has.read;
+    under_way = subst (λ (x : Reader). AreUnderWay x.number (es ++ page ∷ [])) (sym stays.reader) has.under_way;
     many = has.many ∙ ap (λ (x : Reader). x.taken) (sym stays.reader);
     offset = stays.offset ∙ has.offset;
     few = has.few;
     applying = keeps start first gs es has.under_way has.applying;
   }
 
-  group_kept : {start : Pages} {first now : D} {r : Receiver} {page : GroupPage} {taken : List ℕ} {gs : List Group} {es : List Entry} → HasKept d start first r page taken gs es now
-      → is_next_number r.last r.reader.number ≡ true → IsGroupKept r page.page (es ++ entry page ∷ [])
+  group_kept : {start : Pages} {first now : D} {r : Receiver} {page : Entry} {taken : List ℕ} {gs : List Group} {es : List Entry} → HasKept d start first r page taken gs es now
+      → is_next_number r.last r.reader.number ≡ true → IsGroupKept r page.page (es ++ page ∷ [])
   group_kept {page = page} {es = es} has next = record {
-    waits = ((has.applying).knows).waits (some_kept es (entry page)) next;
+    waits = ((has.applying).knows).waits (some_kept es page) next;
     under_way = has.under_way;
-    last = least_more es (entry page) 0;
+    last = least_more es page 0;
     many = has.many;
   }
 
   -- It holds no store.
-  pub refused_base : {start : Pages} {first now : D} {r : Receiver} {page : GroupPage} {taken : List ℕ} {gs : List Group} {es : List Entry} → IsBaseless r page.page
+  pub refused_base : {start : Pages} {first now : D} {r : Receiver} {page : Entry} {taken : List ℕ} {gs : List Group} {es : List Entry} → IsBaseless r page.page
       → HasKept d start first r page taken gs es now → (behind : List ℕ) → AppliesTo d start (taken ++ behind) (Err (error.Base r.reader.number)) first now
   refused_base {start = start} {r = r} {page = page} {taken = taken} {gs = gs} {es = es} baseless has behind =
-      let fs = es ++ entry page ∷ [] in
+      let fs = es ++ page ∷ [] in
       let g : Group = record { number = r.reader.number; entries = fs } in
       let b = begins-before gs g taken (has.read).held (has.read).begins in
       let same = good-append b.rest behind b.good in
@@ -213,17 +211,17 @@ module _ {D : Type 0} {d : Ghosts D} where
         no_base = λ base. baseless.no_base fs (group_kept has (next_none r baseless.none)) (subst (λ (x : Group). IsBase x) (same.group ∙ sym b.is) base);
       })
 
-  may_come : {start : Pages} {first now : D} {r : Receiver} {page : GroupPage} {taken : List ℕ} {gs : List Group} {es : List Entry} → HasKept d start first r page taken gs es now
-      → is_next_number r.last r.reader.number ≡ true → IsBased r page.page → MayComeTo (over_all start gs) (record { number = r.reader.number; entries = es ++ entry page ∷ [] })
+  may_come : {start : Pages} {first now : D} {r : Receiver} {page : Entry} {taken : List ℕ} {gs : List Group} {es : List Entry} → HasKept d start first r page taken gs es now
+      → is_next_number r.last r.reader.number ≡ true → IsBased r page.page → MayComeTo (over_all start gs) (record { number = r.reader.number; entries = es ++ page ∷ [] })
   may_come {start = start} {r = r} {page = page} {gs = gs} {es = es} has next based =
-      comes (over_all start gs) r.last (record { number = r.reader.number; entries = es ++ entry page ∷ [] }) next ((has.applying).knows).last (λ none. based none (es ++ entry page ∷ []) (group_kept has next))
+      comes (over_all start gs) r.last (record { number = r.reader.number; entries = es ++ page ∷ [] }) next ((has.applying).knows).last (λ none. based none (es ++ page ∷ []) (group_kept has next))
 
   -- The group is in.
-  pub applied_last : {start : Pages} {first b c : D} {k n : Receiver} {page : GroupPage} {taken : List ℕ} {gs : List Group} {es : List Entry} → HasKept d start first k page taken gs es b
+  pub applied_last : {start : Pages} {first b c : D} {k n : Receiver} {page : Entry} {taken : List ℕ} {gs : List Group} {es : List Entry} → HasKept d start first k page taken gs es b
       → is_next_number k.last k.reader.number ≡ true → IsBased k page.page → n.reader ≡ k.reader → n.offset ≡ min (k.offset + (12 + 8196 * k.reader.taken)) (2 ^ 64 - 1)
-      → CommitsGroup d k n b c → Receives d start first n taken (gs ++ record { number = k.reader.number; entries = es ++ entry page ∷ [] } ∷ []) [] c
+      → CommitsGroup d k n b c → Receives d start first n taken (gs ++ record { number = k.reader.number; entries = es ++ page ∷ [] } ∷ []) [] c
   applied_last {start = start} {first = first} {k = k} {n = n} {page = page} {taken = taken} {gs = gs} {es = es} has next based reader offset commits =
-      let fs = es ++ entry page ∷ [] in
+      let fs = es ++ page ∷ [] in
       let g : Group = record { number = k.reader.number; entries = fs } in
       record {
         read = subst (λ (x : Reader). HasFed x taken (gs ++ g ∷ []) []) (sym reader) has.read;
@@ -235,14 +233,14 @@ module _ {D : Type 0} {d : Ghosts D} where
             let few = has.few in
             omega (arith, long, more, before, many, few, offset);
         few = has.few;
-        applying = commits start first gs fs (some_kept es (entry page)) has.under_way (may_come has next based) next has.applying;
+        applying = commits start first gs fs (some_kept es page) has.under_way (may_come has next based) next has.applying;
       }
 
   -- Its commit was cut short.
-  pub uncommitted : {start : Pages} {first b c : D} {k : Receiver} {page : GroupPage} {taken : List ℕ} {gs : List Group} {es : List Entry} (e : ShipError) → IsCutShort e → HasKept d start first k page taken gs es b
+  pub uncommitted : {start : Pages} {first b c : D} {k : Receiver} {page : Entry} {taken : List ℕ} {gs : List Group} {es : List Entry} (e : ShipError) → IsCutShort e → HasKept d start first k page taken gs es b
       → is_next_number k.last k.reader.number ≡ true → IsBased k page.page → StopsCommitting d k b c → (behind : List ℕ) → AppliesTo d start (taken ++ behind) (Err e) first c
   uncommitted {start = start} {first = first} {c = c} {k = k} {page = page} {taken = taken} {gs = gs} {es = es} e cut has next based stops behind =
-      let fs = es ++ entry page ∷ [] in
+      let fs = es ++ page ∷ [] in
       let g : Group = record { number = k.reader.number; entries = fs } in
       record {
         groups = gs ++ g ∷ [];
@@ -251,7 +249,7 @@ module _ {D : Type 0} {d : Ghosts D} where
         in_turn = in_turn_more start gs g ((has.applying).knows).in_turn (may_come has next based);
         why = cut_ends start (taken ++ behind) ((has.read).held ++ behind) (gs ++ g ∷ []) (d.beside c).input e cut;
         shows = λ dense told. record {
-          time = stops start first gs fs (some_kept es (entry page)) (may_come has next based) next has.applying (dense_before start gs (g ∷ []) dense) told;
+          time = stops start first gs fs (some_kept es page) (may_come has next based) next has.applying (dense_before start gs (g ∷ []) dense) told;
           all_in = cut_in e (AreIn d start (gs ++ g ∷ []) first c) cut;
         };
       }
@@ -283,11 +281,11 @@ module _ {D : Type 0} {d : Ghosts D} where
   }
 
   -- the page waits
-  pub fed_page : {start : Pages} {first a b : D} {mid new : Receiver} (page : GroupPage) (bytes : List ℕ) {gs : List Group} (es : List Entry) → LeavesStream mid new → KeepsPage d page mid new a b
-      → HasFed mid.reader bytes gs (es ++ entry page ∷ []) → AreUnderWay mid.reader.number (es ++ entry page ∷ []) → mid.offset ≡ stream_length gs → length bytes ≤ most_input
-      → IsApplying d start first mid gs es a → Receives d start first new bytes gs (es ++ entry page ∷ []) b
+  pub fed_page : {start : Pages} {first a b : D} {mid new : Receiver} (page : Entry) (bytes : List ℕ) {gs : List Group} (es : List Entry) → LeavesStream mid new → KeepsPage d page mid new a b
+      → HasFed mid.reader bytes gs (es ++ page ∷ []) → AreUnderWay mid.reader.number (es ++ page ∷ []) → mid.offset ≡ stream_length gs → length bytes ≤ most_input
+      → IsApplying d start first mid gs es a → Receives d start first new bytes gs (es ++ page ∷ []) b
   fed_page {start = start} {first = first} page bytes {gs = gs} es stays keeps read under offset few applying = record {
-    read = subst (λ (x : Reader). HasFed x bytes gs (es ++ entry page ∷ [])) (sym stays.reader) read;
+    read = subst (λ (x : Reader). HasFed x bytes gs (es ++ page ∷ [])) (sym stays.reader) read;
     offset = stays.offset ∙ offset;
     few = few;
     applying = keeps start first gs es under applying;
@@ -319,10 +317,10 @@ module _ {D : Type 0} {d : Ghosts D} where
       }))
 
   -- the last page doesn't wait
-  pub unkept : {start : Pages} {first a b : D} {r : Receiver} {page : GroupPage} {taken : List ℕ} {gs : List Group} {es : List Entry} (e : ShipError) → IsCutShort e → AppliesNone d r a b
+  pub unkept : {start : Pages} {first a b : D} {r : Receiver} {page : Entry} {taken : List ℕ} {gs : List Group} {es : List Entry} (e : ShipError) → IsCutShort e → AppliesNone d r a b
       → HasLast d start first r page taken gs es a → (behind : List ℕ) → AppliesTo d start (taken ++ behind) (Err e) first b
   unkept {r = r} {page = page} {taken = taken} {gs = gs} {es = es} e cut none has behind =
-      let b = begins-before gs (record { number = r.reader.number; entries = es ++ entry page ∷ [] }) taken (has.read).held (has.read).begins in
+      let b = begins-before gs (record { number = r.reader.number; entries = es ++ page ∷ [] }) taken (has.read).held (has.read).begins in
       stopped (taken ++ behind) (b.rest ++ behind) e cut (begins-append gs taken b.rest behind b.begins) has.applying none
 
 pub next_kept : (r k : Receiver) → LeavesStream r k → is_next_number r.last r.reader.number ≡ true → is_next_number k.last k.reader.number ≡ true

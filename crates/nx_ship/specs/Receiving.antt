@@ -8,8 +8,6 @@ use Rattle.nx_host.specs.Time.{Elapses}
 use Rattle.nx_host.specs.Still.{IsSettled}
 use Rattle.nx_replay.specs.Log.{Pages, Entry, Group, entry_pages, replay}
 use Rattle.nx_replay.specs.Laws.{over_all}
-use Rattle.nx_groups.specs.declared.group.GroupPage.{GroupPage}
-use Rattle.nx_groups.specs.Groups.{entry}
 use Rattle.nx_wal.specs.Wal.{IsInStep, pending}
 use Rattle.nx_wal.specs.declared.wal.Wal.{Wal}
 use Rattle.nx_ship.specs.Stream.{stream_length, BeginsWithHeader, IsStream}
@@ -99,10 +97,10 @@ pub record Receives {D : Type 0} (d : Ghosts D) (start : Pages) (first : D) (r :
   pub applying : IsApplying d start first r groups es now
 
 -- The last page of a group was read, and isn't kept yet.
-pub record HasLast {D : Type 0} (d : Ghosts D) (start : Pages) (first : D) (r : Receiver) (page : GroupPage) (taken : List ℕ) (groups : List Group) (es : List Entry) (now : D) : Type 0 where
-  pub read : HasFed r.reader taken (groups ++ record { number = r.reader.number; entries = es ++ entry page ∷ [] } ∷ []) []
-  pub under_way : AreUnderWay r.reader.number (es ++ entry page ∷ [])
-  pub many : length (es ++ entry page ∷ []) ≡ r.reader.taken
+pub record HasLast {D : Type 0} (d : Ghosts D) (start : Pages) (first : D) (r : Receiver) (page : Entry) (taken : List ℕ) (groups : List Group) (es : List Entry) (now : D) : Type 0 where
+  pub read : HasFed r.reader taken (groups ++ record { number = r.reader.number; entries = es ++ page ∷ [] } ∷ []) []
+  pub under_way : AreUnderWay r.reader.number (es ++ page ∷ [])
+  pub many : length (es ++ page ∷ []) ≡ r.reader.taken
   pub offset : r.offset ≡ stream_length groups
   pub few : length taken ≤ most_input
   pub applying : IsApplying d start first r groups es now
@@ -122,14 +120,14 @@ StopsReceiving {D} d piece e old before after = (start : Pages) (first : D) (tak
     → AppliesTo d start (taken ++ piece) (Err e) first after
 
 -- A page more of the group under way waits, where the group may be the next.
-abbrev pub KeepsPage : {D : Type 0} → Ghosts D → GroupPage → Receiver → Receiver → D → D → Type 0
-KeepsPage {D} d page old new before after = (start : Pages) (first : D) (groups : List Group) (es : List Entry) → AreUnderWay old.reader.number (es ++ entry page ∷ [])
-    → IsApplying d start first old groups es before → IsApplying d start first new groups (es ++ entry page ∷ []) after
+abbrev pub KeepsPage : {D : Type 0} → Ghosts D → Entry → Receiver → Receiver → D → D → Type 0
+KeepsPage {D} d page old new before after = (start : Pages) (first : D) (groups : List Group) (es : List Entry) → AreUnderWay old.reader.number (es ++ page ∷ [])
+    → IsApplying d start first old groups es before → IsApplying d start first new groups (es ++ page ∷ []) after
 
 -- ... where the log is ready for it
-abbrev pub WaitsPage : {D : Type 0} → Ghosts D → GroupPage → Receiver → Receiver → D → D → Type 0
-WaitsPage {D} d page old new before after = (start : Pages) (first : D) (groups : List Group) (es : List Entry) → AreUnderWay old.reader.number (es ++ entry page ∷ [])
-    → IsApplyingBy d start first old groups es (Unit {0}) before → IsApplying d start first new groups (es ++ entry page ∷ []) after
+abbrev pub WaitsPage : {D : Type 0} → Ghosts D → Entry → Receiver → Receiver → D → D → Type 0
+WaitsPage {D} d page old new before after = (start : Pages) (first : D) (groups : List Group) (es : List Entry) → AreUnderWay old.reader.number (es ++ page ∷ [])
+    → IsApplyingBy d start first old groups es (Unit {0}) before → IsApplying d start first new groups (es ++ page ∷ []) after
 
 -- the groups were applied, and no others, whatever became of this call
 abbrev pub AppliesNone : {D : Type 0} → Ghosts D → Receiver → D → D → Type 0
@@ -171,12 +169,12 @@ pub record LeavesStream (old new : Receiver) : Type 0 where
   pub offset : new.offset ≡ old.offset
 
 -- The last page of a group was taken, and the group applied;
-abbrev pub AppliesLast : {D : Type 0} → Ghosts D → GroupPage → Receiver → Receiver → D → D → Type 0
+abbrev pub AppliesLast : {D : Type 0} → Ghosts D → Entry → Receiver → Receiver → D → D → Type 0
 AppliesLast {D} d page old new before after = (start : Pages) (first : D) (taken : List ℕ) (groups : List Group) (es : List Entry) → HasLast d start first old page taken groups es before
-    → Receives d start first new taken (groups ++ record { number = old.reader.number; entries = es ++ entry page ∷ [] } ∷ []) [] after
+    → Receives d start first new taken (groups ++ record { number = old.reader.number; entries = es ++ page ∷ [] } ∷ []) [] after
 
 -- ... or the call ends with this error, whatever stands behind the group.
-abbrev pub StopsAtLast : {D : Type 0} → Ghosts D → GroupPage → ShipError → Receiver → D → D → Type 0
+abbrev pub StopsAtLast : {D : Type 0} → Ghosts D → Entry → ShipError → Receiver → D → D → Type 0
 StopsAtLast {D} d page e old before after = (start : Pages) (first : D) (taken : List ℕ) (groups : List Group) (es : List Entry) → HasLast d start first old page taken groups es before
     → (behind : List ℕ) → AppliesTo d start (taken ++ behind) (Err e) first after
 

@@ -6,7 +6,6 @@ ghost use Rattle.nx_host.specs.Input.{most_input};
 ghost use Rattle.nx_host.specs.Still.{IsStill, IsSettled};
 ghost use Rattle.nx_numbers.specs.Sizes.{entry_size, most_pages};
 ghost use Rattle.nx_replay.specs.Log.{Entry, HasMark, entry_pages, replay};
-ghost use Rattle.nx_groups.specs.Groups.{entry};
 ghost use Rattle.nx_wal.specs.Wal.{IsInStep, length_of, pending};
 ghost use Rattle.nx_ship.specs.Applying.{line_for};
 
@@ -14,7 +13,6 @@ use crate::ShipError;
 use crate::error::error_of;
 use crate::opening::{find_store, following, read_head};
 use crate::reader::{Fed, Reader};
-use nx_groups::GroupPage;
 use nx_holdings::{Header, read_header};
 use nx_host::{Disk, Host};
 use nx_wal::{Wal, WalError};
@@ -41,6 +39,7 @@ pub(crate) struct Receiver {
 impl Receiver {
     ghost use Rattle.nx_holdings.specs.declared.header.Header.{Header};
     ghost use Rattle.nx_ship.specs.Next.{IsHeadedBy, IsBase};
+    ghost use Rattle.nx_ship.specs.Reading.{page_of};
     ghost use Rattle.nx_ship.specs.Sent.{IsFault, IsCutShort, IsHeadless};
     ghost use Rattle.nx_ship.specs.Applying.{IsUnapplied};
     ghost use Rattle.nx_ship.specs.Receiving.{IsTakeFault, LeavesInput, LeavesStream, HasOpened, is_next_number, ReceivesMore, StopsReceiving, TakesSome, KeepsPage, AppliesNone, BeginsGroup, AppliesLast, StopsAtLast, IsGroupKept, IsBaseless, IsBased, CommitsGroup, StopsCommitting, RefusesNumber, EndsStream, IsStreamError};
@@ -132,11 +131,11 @@ impl Receiver {
         match fed {
             Fed::More(taken) => Ok(taken),
             Fed::Page(taken, page) => {
-                self.put(host, &page)?;
+                self.put(host, page)?;
                 Ok(taken)
             }
             Fed::Last(taken, page) => {
-                self.take_last(host, &page)?;
+                self.take_last(host, page)?;
                 Ok(taken)
             }
             Fed::NotGood(_) => Err(ShipError::Stream {
@@ -145,10 +144,10 @@ impl Receiver {
         }
     }
 
-    // Keeps a page of the group under way, where the group may be the next one.
-    fn put<D: Disk>(&mut self, disk: &mut D, page: &GroupPage) -> Result<(), ShipError>
-        requires { page.now.page < most_pages }
-        ensures ok { OnOk result (KeepsPage D.Disk page.now self.old self.new disk.old disk.new) }
+    // Keeps the page that the reader has, under this number, where its group may be the next one.
+    fn put<D: Disk>(&mut self, disk: &mut D, page: u32) -> Result<(), ShipError>
+        requires { page < most_pages }
+        ensures ok { OnOk result (KeepsPage D.Disk (page_of page self.old.reader) self.old self.new disk.old disk.new) }
         ensures moves { AppliesNone D.Disk self.old disk.old disk.new }
         ensures cut { IfErr result (λ e. IsCutShort e) }
         ensures stays { LeavesStream self.old self.new }
@@ -162,9 +161,9 @@ impl Receiver {
     }
 
     // Makes a page of the group under way wait for its commit.
-    fn keep<D: Disk>(&mut self, disk: &mut D, page: &GroupPage) -> Result<(), ShipError>
-        requires { page.now.page < most_pages }
-        ensures ok { OnOk result (is_next_number self.old.last self.old.reader.number ≡ true → KeepsPage D.Disk page.now self.old self.new disk.old disk.new) }
+    fn keep<D: Disk>(&mut self, disk: &mut D, page: u32) -> Result<(), ShipError>
+        requires { page < most_pages }
+        ensures ok { OnOk result (is_next_number self.old.last self.old.reader.number ≡ true → KeepsPage D.Disk (page_of page self.old.reader) self.old self.new disk.old disk.new) }
         ensures some { OnOk result (pending self.new.wal ≢ []) }
         ensures moves { AppliesNone D.Disk self.old disk.old disk.new }
         ensures cut { IfErr result (λ e. IsCutShort e) }
@@ -173,7 +172,7 @@ impl Receiver {
         ensures cause { IfErr result (λ e. IsTakeFault D.Disk e disk.old disk.new) }
     {
         self.begin_group(disk)?;
-        match self.wal.put(page.page, &page.bytes) {
+        match self.wal.put(page, self.reader.page()) {
             Ok(()) => Ok(()),
             Err(error) => Err(error_of(error)),
         }
@@ -224,16 +223,16 @@ impl Receiver {
     }
 
     // Takes the last page of a group, which is good, and applies the group or refuses it.
-    fn take_last<H: Host>(&mut self, host: &mut H, page: &GroupPage) -> Result<(), ShipError>
-        requires { page.now.page < most_pages }
-        ensures ok { OnOk result (AppliesLast ⟦<H as Disk>⟧ page.now self.old self.new host.old host.new) }
-        ensures err { IfErr result (λ e. StopsAtLast ⟦<H as Disk>⟧ page.now e self.old host.old host.new) }
+    fn take_last<H: Host>(&mut self, host: &mut H, page: u32) -> Result<(), ShipError>
+        requires { page < most_pages }
+        ensures ok { OnOk result (AppliesLast ⟦<H as Disk>⟧ (page_of page self.old.reader) self.old self.new host.old host.new) }
+        ensures err { IfErr result (λ e. StopsAtLast ⟦<H as Disk>⟧ (page_of page self.old.reader) e self.old host.old host.new) }
         ensures leaves { LeavesInput ⟦<H as Disk>⟧ host.old host.new }
         ensures cause { IfErr result (λ e. IsTakeFault ⟦<H as Disk>⟧ e host.old host.new) }
     {
         self.check_number()?;
         self.keep(host, page)?;
-        if self.is_baseless(page.page) {
+        if self.is_baseless(page) {
             return Err(ShipError::Base {
                 number: self.reader.number,
             });

@@ -1,8 +1,7 @@
-use Rattle.std.proofs.Common.{◌≡◌, ◌++◌, ◌∷◌, [], ◌<◌, ◌≤◌, refl, arith, ◌+◌, length, length-append, ap}
-use Rattle.nx_groups.specs.Groups.{entry}
-use Rattle.nx_ship.specs.declared.reader.Reader.{Reader}
+use Rattle.std.proofs.Common.{◌≡◌, ◌∙◌, ◌∷◌, [], ◌<◌, ◌≤◌, refl, arith, ◌+◌, length, length-append, ap}
+use Rattle.nx_ship.specs.Reading.{Grows, page_of}
 use Rattle.std.specs.Prelude.{take}
-use Rattle.nx_ship.proofs.ReadingLemmas.{IsTaken, Grows, taken_fits, taken_some, fed_more, full_head, full_page, begun, gone_on, between, head_refused, head_long, pages_long, page_refused, page_taken, all_taken, read_on, read_spoilt, read_group, under_way}
+use Rattle.nx_ship.proofs.ReadingLemmas.{IsTaken, taken_by, taken_fits, taken_some, fed_more, full_head, full_page, begun, gone_on, between, head_refused, head_long, pages_long, page_refused, page_taken, all_taken, read_on, read_spoilt, read_group, under_way}
 use Rattle.nx_ship.proofs.reader.Reader.feed.Goals as goal
 
 pub returns-then-taken-wanted : goal.returns-then-taken-wanted
@@ -11,11 +10,9 @@ returns-then-taken-wanted c =
     let piece = c.args.piece.now in
     let taken = c.min-taken.result in
     let wanted = c.wanted-wanted.result in
-    let is : IsTaken old piece wanted taken = record { is = c.min-taken.ensures; head = c.wanted-wanted.ensures.head; page = c.wanted-wanted.ensures.page } in
-    let mid : Reader = record { number = old.number; count = old.count; taken = old.taken; least = old.least; unit = c.extend_from_slice.new.self } in
-    let unit : c.extend_from_slice.new.self.items ≡ old.unit.items ++ take taken piece = grind (arith, c.in_ok-extend_from_slice.ensures.items) in
-    let grows : Grows (take taken piece) old mid = record { unit = unit; number = refl; count = refl; taken = refl; least = refl } in
-    (taken_fits is grows, λ bytes groups es was. record { some = taken_some is grows was.holds; read = read_on was (λ held holds. fed_more is grows c.if-taken-wanted.true held es holds); number_stays = λ some. refl })
+    let is : IsTaken old piece wanted taken = taken_by c.min-taken.ensures c.wanted-wanted.ensures.head c.wanted-wanted.ensures.page in
+    let grows : Grows (take taken piece) old c.fill.new.self = c.in_ok-fill.ensures in
+    (taken_fits is grows, λ bytes groups es was. record { some = taken_some is grows was.holds; read = read_on was (λ held holds. fed_more is grows c.if-taken-wanted.true held es holds); number_stays = λ some. grows.number })
 
 pub returns-then-not-take_head : goal.returns-then-not-take_head
 returns-then-not-take_head c =
@@ -23,10 +20,8 @@ returns-then-not-take_head c =
     let piece = c.args.piece.now in
     let taken = c.min-taken.result in
     let wanted = c.wanted-wanted.result in
-    let is : IsTaken old piece wanted taken = record { is = c.min-taken.ensures; head = c.wanted-wanted.ensures.head; page = c.wanted-wanted.ensures.page } in
-    let mid : Reader = record { number = old.number; count = old.count; taken = old.taken; least = old.least; unit = c.extend_from_slice.new.self } in
-    let unit : c.extend_from_slice.new.self.items ≡ old.unit.items ++ take taken piece = grind (arith, c.in_ok-extend_from_slice.ensures.items) in
-    let grows : Grows (take taken piece) old mid = record { unit = unit; number = refl; count = refl; taken = refl; least = refl } in
+    let is : IsTaken old piece wanted taken = taken_by c.min-taken.ensures c.wanted-wanted.ensures.head c.wanted-wanted.ensures.page in
+    let grows : Grows (take taken piece) old c.fill.new.self = c.in_ok-fill.ensures in
     let full : wanted ≤ taken = omega (arith, c.if-taken-wanted.false) in
     let none : old.count ≡ 0 = omega (arith, c.if-self-eq0.true) in (
       taken_fits is grows,
@@ -41,10 +36,8 @@ returns-then-self-eq0 c =
     let piece = c.args.piece.now in
     let taken = c.min-taken.result in
     let wanted = c.wanted-wanted.result in
-    let is : IsTaken old piece wanted taken = record { is = c.min-taken.ensures; head = c.wanted-wanted.ensures.head; page = c.wanted-wanted.ensures.page } in
-    let mid : Reader = record { number = old.number; count = old.count; taken = old.taken; least = old.least; unit = c.extend_from_slice.new.self } in
-    let unit : c.extend_from_slice.new.self.items ≡ old.unit.items ++ take taken piece = grind (arith, c.in_ok-extend_from_slice.ensures.items) in
-    let grows : Grows (take taken piece) old mid = record { unit = unit; number = refl; count = refl; taken = refl; least = refl } in
+    let is : IsTaken old piece wanted taken = taken_by c.min-taken.ensures c.wanted-wanted.ensures.head c.wanted-wanted.ensures.page in
+    let grows : Grows (take taken piece) old c.fill.new.self = c.in_ok-fill.ensures in
     let full : wanted ≤ taken = omega (arith, c.if-taken-wanted.false) in
     let none : old.count ≡ 0 = omega (arith, c.if-self-eq0.true) in (
       taken_fits is grows,
@@ -63,10 +56,8 @@ returns-in_default c =
     let piece = c.args.piece.now in
     let taken = c.min-taken.result in
     let wanted = c.wanted-wanted.result in
-    let is : IsTaken old piece wanted taken = record { is = c.min-taken.ensures; head = c.wanted-wanted.ensures.head; page = c.wanted-wanted.ensures.page } in
-    let mid : Reader = record { number = old.number; count = old.count; taken = old.taken; least = old.least; unit = c.extend_from_slice.new.self } in
-    let unit : c.extend_from_slice.new.self.items ≡ old.unit.items ++ take taken piece = grind (arith, c.in_ok-extend_from_slice.ensures.items) in
-    let grows : Grows (take taken piece) old mid = record { unit = unit; number = refl; count = refl; taken = refl; least = refl } in
+    let is : IsTaken old piece wanted taken = taken_by c.min-taken.ensures c.wanted-wanted.ensures.head c.wanted-wanted.ensures.page in
+    let grows : Grows (take taken piece) old c.fill.new.self = c.in_ok-fill.ensures in
     let full : wanted ≤ taken = omega (arith, c.if-taken-wanted.false) in
     let some : 0 < old.count = omega (arith, c.if-self-eq0.false) in (
       taken_fits is grows,
@@ -81,10 +72,8 @@ returns-then-self c =
     let piece = c.args.piece.now in
     let taken = c.min-taken.result in
     let wanted = c.wanted-wanted.result in
-    let is : IsTaken old piece wanted taken = record { is = c.min-taken.ensures; head = c.wanted-wanted.ensures.head; page = c.wanted-wanted.ensures.page } in
-    let mid : Reader = record { number = old.number; count = old.count; taken = old.taken; least = old.least; unit = c.extend_from_slice.new.self } in
-    let unit : c.extend_from_slice.new.self.items ≡ old.unit.items ++ take taken piece = grind (arith, c.in_ok-extend_from_slice.ensures.items) in
-    let grows : Grows (take taken piece) old mid = record { unit = unit; number = refl; count = refl; taken = refl; least = refl } in
+    let is : IsTaken old piece wanted taken = taken_by c.min-taken.ensures c.wanted-wanted.ensures.head c.wanted-wanted.ensures.page in
+    let grows : Grows (take taken piece) old c.fill.new.self = c.in_ok-fill.ensures in
     let full : wanted ≤ taken = omega (arith, c.if-taken-wanted.false) in
     let some : 0 < old.count = omega (arith, c.if-self-eq0.false) in
     let left : c.take_page.new.self.taken < c.take_page.new.self.count = omega (arith, c.if-self.true) in (
@@ -100,10 +89,10 @@ returns-then-self c =
             under_way =
                 let page = full_page is grows full some was.held es was.holds in
                 let takes = c.in-Some.ensures.taken page.2 in
-                under_way (page_taken page.0 page.1 takes) (omega (arith, length-append es (entry c.in-Some.page ∷ [])));
+                under_way (page_taken page.0 page.1 takes) (omega (arith, length-append es (page_of c.in-Some.page c.take_page.new.self ∷ [])));
             number_stays =
                 let page = full_page is grows full some was.held es was.holds in
-                (c.in-Some.ensures.taken page.2).number;
+                (c.in-Some.ensures.taken page.2).number ∙ grows.number;
           },
     )
 
@@ -113,32 +102,30 @@ returns c =
     let piece = c.args.piece.now in
     let taken = c.min-taken.result in
     let wanted = c.wanted-wanted.result in
-    let is : IsTaken old piece wanted taken = record { is = c.min-taken.ensures; head = c.wanted-wanted.ensures.head; page = c.wanted-wanted.ensures.page } in
-    let mid : Reader = record { number = old.number; count = old.count; taken = old.taken; least = old.least; unit = c.extend_from_slice.new.self } in
-    let unit : c.extend_from_slice.new.self.items ≡ old.unit.items ++ take taken piece = grind (arith, c.in_ok-extend_from_slice.ensures.items) in
-    let grows : Grows (take taken piece) old mid = record { unit = unit; number = refl; count = refl; taken = refl; least = refl } in
+    let is : IsTaken old piece wanted taken = taken_by c.min-taken.ensures c.wanted-wanted.ensures.head c.wanted-wanted.ensures.page in
+    let grows : Grows (take taken piece) old c.fill.new.self = c.in_ok-fill.ensures in
     let full : wanted ≤ taken = omega (arith, c.if-taken-wanted.false) in
     let some : 0 < old.count = omega (arith, c.if-self-eq0.false) in
-    let enough : c.take_page.new.self.count ≤ c.take_page.new.self.taken = omega (arith, c.if-self.false) in
-    let last : Reader = record { number = c.take_page.new.self.number; count = 0; taken = c.take_page.new.self.taken; least = c.take_page.new.self.least; unit = c.take_page.new.self.unit } in (
+    let enough : c.take_page.new.self.count ≤ c.take_page.new.self.taken = omega (arith, c.if-self.false) in (
       taken_fits is grows,
       c.in-Some.ensures.low,
       λ bytes groups es was.
           let page = full_page is grows full some was.held es was.holds in
           let takes = c.in-Some.ensures.taken page.2 in
           let holds = page_taken page.0 page.1 takes in
-          let count : c.take_page.new.self.count ≡ old.count = takes.count in
-          let more : c.take_page.new.self.taken ≡ old.taken + 1 = takes.taken in
+          let count : c.take_page.new.self.count ≡ c.fill.new.self.count = takes.count in
+          let same : c.fill.new.self.count ≡ old.count = grows.count in
+          let more : c.take_page.new.self.taken ≡ c.fill.new.self.taken + 1 = takes.taken in
           record {
             some = taken_some is grows was.holds;
-            read = read_group {new = last} was (λ held now.
+            read = read_group was (λ held now.
                 let page = full_page is grows full some held es now in
                 let takes = c.in-Some.ensures.taken page.2 in
                 let left = page.2 in
-                all_taken (page_taken page.0 page.1 takes) (omega (arith, enough, left, more, count)) (omega (arith, count, some)) takes.unit)
-                (between last refl takes.unit);
-            under_way = under_way holds (omega (arith, length-append es (entry c.in-Some.page ∷ [])));
-            number_stays = takes.number;
+                all_taken (page_taken page.0 page.1 takes) (omega (arith, enough, left, more, count)) (omega (arith, count, same, some)) takes.unit)
+                (between _ refl takes.unit);
+            under_way = under_way holds (omega (arith, length-append es (page_of c.in-Some.page c.take_page.new.self ∷ [])));
+            number_stays = takes.number ∙ grows.number;
             many = holds.many;
             few = let f = holds.few in let left = page.2 in omega (arith, f, enough, left, more, count);
           },

@@ -1,4 +1,5 @@
-use Rattle.std.proofs.Common.{refl, sym, subst, arith}
+use Rattle.std.proofs.Common.{List, length, refl, sym, ap, subst, arith}
+use Rattle.nx_replay.specs.Log.{Entry}
 use Rattle.nx_ship.specs.Sent.{IsCutShort}
 use Rattle.nx_ship.specs.Receiving.{IsTakeFault}
 use Rattle.nx_ship.specs.declared.error.ShipError.{ShipError}
@@ -6,8 +7,14 @@ use Rattle.nx_ship.proofs.SendLemmas.{log_cut}
 use Rattle.nx_wal.specs.Wal.{pending}
 use Rattle.nx_ship.proofs.ReceivingLemmas.{leaves_none, writes_leaves}
 use Rattle.nx_ship.proofs.TakingLemmas.{applies_none}
-use Rattle.nx_ship.proofs.CallLemmas.{begins_on, begins_short, begins_moved, moves_none, some_waits, log_fault}
+use Rattle.nx_ship.proofs.CallLemmas.{begins_on, begins_short, begins_moved, moves_none, some_waits, log_fault, none_waits}
 use Rattle.nx_ship.proofs.receiver.Receiver.begin_group.Goals as goal
+
+pub invariant_of-self-2 : goal.invariant_of-self-2
+invariant_of-self-2 g c =
+    let none = none_waits g.D.Disk c.abandon.new.self c.checkpoint.new.self c.args.disk.now c.checkpoint.new.disk c.checkpoint.result c.abandon.ensures.none_left c.checkpoint.ensures.empty c.checkpoint.ensures.refused in
+    let empty = ap (λ (es : List Entry). length es) none in
+    record { room = λ some. absurd (omega (arith, some, empty)) }
 
 pub returns-in-Some-clause-ok : goal.returns-in-Some-clause-ok
 returns-in-Some-clause-ok g c = begins_on {d = g.D.Disk} (some_waits (pending c.args.self.now.wal) c.in-Some.field-0 (λ bytes. bytes.now.bytes) c.in-Some.ensures)

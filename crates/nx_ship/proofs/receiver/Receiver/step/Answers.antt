@@ -1,9 +1,8 @@
 use Rattle.std.proofs.Common.{◌∷◌, ◌++◌, [], List, ℕ, take, drop, refl, subst}
 use Rattle.std.specs.Prelude.{Err}
 use Rattle.std.proofs.lemmas.Result.{err_from_is_err_and}
-use Rattle.nx_groups.specs.Groups.{entry}
 use Rattle.nx_ship.specs.Applying.{AppliesTo}
-use Rattle.nx_ship.specs.Reading.{Feeds}
+use Rattle.nx_ship.specs.Reading.{Feeds, page_of}
 use Rattle.nx_ship.specs.declared.reader.Fed.{Fed}
 use Rattle.nx_ship.specs.declared.error.ShipError.TheVariants.{Memory}
 use Rattle.nx_ship.proofs.ReceivingLemmas.{leaves_none}
@@ -58,8 +57,8 @@ returns-in_ok-put-in-Page-clause-ok g c start first taken few (gs, es, received)
     let fact = subst (λ (f : Fed). Feeds f c.args.piece.now c.args.self.now.reader c.feed.new.self) c.in-Page.is c.in_ok-fed.ensures in
     let takes = fact.2 taken gs es received.read in (
       gs,
-      es ++ entry c.in-Page.page ∷ [],
-      fed_page c.in-Page.page (taken ++ take c.in-Page.taken c.args.piece.now) es c.put.ensures.stays c.in_ok-put-in-Page.ensures.ok takes.read takes.under_way received.offset few
+      es ++ page_of c.in-Page.page c.feed.new.self ∷ [],
+      fed_page (page_of c.in-Page.page c.feed.new.self) (taken ++ take c.in-Page.taken c.args.piece.now) es c.put.ensures.stays c.in_ok-put-in-Page.ensures.ok takes.read takes.under_way received.offset few
           (fed_applying refl refl (λ some. takes.number_stays) received.applying),
     )
 
@@ -107,7 +106,7 @@ returns-in_ok-take_last-in-Last-clause-ok g c start first taken few (gs, es, rec
     let piece = c.args.piece.now in
     let n = c.in-Last.taken in
     let takes = fact.2 taken gs es received.read in (
-      gs ++ record { number = c.feed.new.self.number; entries = es ++ entry c.in-Last.page ∷ [] } ∷ [],
+      gs ++ record { number = c.feed.new.self.number; entries = es ++ page_of c.in-Last.page c.feed.new.self ∷ [] } ∷ [],
       [],
       c.in_ok-take_last-in-Last.ensures.ok start first (taken ++ take n piece) gs es
           (record {

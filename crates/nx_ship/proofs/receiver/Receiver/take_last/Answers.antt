@@ -1,7 +1,7 @@
 use Rattle.std.proofs.Common.{◌∷◌, ◌++◌, [], ℕ, ap, subst}
 use Rattle.std.proofs.lemmas.Result.{err_from_is_err_and}
 use Rattle.nx_replay.proofs.SettledLemmas.{on_ok2}
-use Rattle.nx_groups.specs.Groups.{entry}
+use Rattle.nx_ship.specs.Reading.{page_of}
 use Rattle.nx_ship.specs.declared.reader.Reader.{Reader}
 use Rattle.nx_ship.specs.Receiving.{Receives}
 use Rattle.nx_ship.proofs.SendLemmas.{if_err2}
@@ -50,7 +50,7 @@ returns-clause-ok g c =
     let old = c.args.self.now in
     let kept = c.keep.new.self in
     on_ok2 c.commit.result c.commit.ensures.ok c.commit.ensures.offset (λ commits offset start first taken groups es has.
-    subst (λ (n : ℕ). Receives d start first c.commit.new.self taken (groups ++ record { number = n; entries = es ++ entry c.args.page.now ∷ [] } ∷ []) [] c.commit.new.host)
+    subst (λ (n : ℕ). Receives d start first c.commit.new.self taken (groups ++ record { number = n; entries = es ++ page_of c.args.page c.args.self.now.reader ∷ [] } ∷ []) [] c.commit.new.host)
     (ap (λ (x : Reader). x.number) c.keep.ensures.stays.reader)
     (applied_last (kept_last c.keep.ensures.stays (c.in_ok-keep.ensures.ok c.in_ok-check_number.ensures) has) (next_kept old kept c.keep.ensures.stays c.in_ok-check_number.ensures) (c.is_baseless.ensures.no c.if-is_baseless.false)
     c.commit.ensures.reader offset commits))
