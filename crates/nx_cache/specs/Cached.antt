@@ -12,8 +12,8 @@ pub record Cached : Type 0 where
   pub capacity : ℕ
 
 -- a page with these bytes
-abbrev pub page_of : List ℕ → PageBytes
-page_of bytes = record { bytes = bytes }
+abbrev pub page_with : List ℕ → PageBytes
+page_with bytes = record { bytes = bytes }
 
 -- what is listed of a page
 abbrev pub bytes_listed : Address → List (Address × PageBytes) → Option PageBytes

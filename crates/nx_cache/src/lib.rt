@@ -8,7 +8,7 @@ ghost use Rattle.std.specs.Prelude.{◌≡◌, ◌≤◌, [], ◌∷◌, length,
 ghost use Rattle.std.specs.Option.{option_copied};
 ghost use Rattle.std.specs.Borrow.{sem};
 ghost use Rattle.nx_numbers.specs.Sizes.{page_size};
-ghost use Rattle.nx_cache.specs.Cached.{bytes_listed, page_of, without_page};
+ghost use Rattle.nx_cache.specs.Cached.{bytes_listed, page_with, without_page};
 
 mod address;
 
@@ -38,7 +38,7 @@ fn frame_with(
     bytes: &[u8],
 ) -> Result<Box<PageBytes>, NoMemory>
     requires { length bytes.now ≡ page_size }
-    ensures { IfOk result (λ frame. frame.value ≡ page_of bytes.now) }
+    ensures { IfOk result (λ frame. frame.value ≡ page_with bytes.now) }
 {
     let mut room = match spare.take() {
         Some(room) => room,
@@ -102,7 +102,7 @@ impl PageCache {
     /// Errors: `NoMemory`, only where the page wasn't listed. The list stays.
     pub fn put(&mut self, address: Address, bytes: &[u8]) -> Result<(), NoMemory>
         requires { length bytes.now ≡ page_size }
-        ensures ok { OnOk result (self.new.pages ≡ take self.old.capacity ((address, page_of bytes.now) ∷ without_page address self.old.pages)) }
+        ensures ok { OnOk result (self.new.pages ≡ take self.old.capacity ((address, page_with bytes.now) ∷ without_page address self.old.pages)) }
         ensures err { OnErr result (self.new.pages ≡ self.old.pages) }
         ensures absent { OnErr result (bytes_listed address self.old.pages ≡ None) }
         ensures capacity { self.new.capacity ≡ self.old.capacity }

@@ -8,7 +8,7 @@ use Rattle.nx_host.specs.Disk.{Image, Keeps, WritesTo, TearsIn, area_of, given_a
 use Rattle.nx_slots.specs.declared.page.PageBytes.{PageBytes}
 use Rattle.nx_cache.specs.declared.address.Address.{Address}
 use Rattle.nx_cache.specs.declared.address.Address.TheVariants.{InPages, InLog}
-use Rattle.nx_cache.specs.Cached.{EachListed, bytes_listed, page_of, without_page}
+use Rattle.nx_cache.specs.Cached.{EachListed, bytes_listed, page_with, without_page}
 use Rattle.nx_cache.proofs.CallerLemmas.{each_none, each_put}
 use Rattle.nx_cached_host.specs.Kept.{KeptStand, EndsBy, GivesPage, LiesBefore, StandsWhole, address_in, end_in}
 
@@ -47,8 +47,8 @@ page_given Log at image page stands = record { whole = given_whole at image.log 
 
 -- a copy of a page that is kept
 pub copied_page : (contents : Option Image) (pages : List (Address × PageBytes)) (area : Area) (at : ℕ) (new : List ℕ)
-    → KeptStand contents pages → bytes_listed (address_in area at) pages ≡ Some (page_of new) → (image : Image) → contents ≡ Some image → GivesPage area at new image
-copied_page contents pages area at new each listed image is = page_given area at image (page_of new) (each image is (address_in area at) (page_of new) listed)
+    → KeptStand contents pages → bytes_listed (address_in area at) pages ≡ Some (page_with new) → (image : Image) → contents ≡ Some image → GivesPage area at new image
+copied_page contents pages area at new each listed image is = page_given area at image (page_with new) (each image is (address_in area at) (page_with new) listed)
 
 -- it is what a read of a page gives
 pub page_read : (area : Area) (at : ℕ) (into new : List ℕ) (image : Image) → length into ≡ page_size → GivesPage area at new image

@@ -2,7 +2,7 @@
 ghost use Rattle.std.specs.Prelude.{◌≡◌, ◌≤◌, ◌∷◌, length, take, true, Some, is_some, IfOk, OnOk};
 ghost use Rattle.nx_numbers.specs.Sizes.{page_size};
 ghost use Rattle.nx_host.specs.Disk.{Image, area_of, given_at};
-ghost use Rattle.nx_cache.specs.Cached.{bytes_listed, page_of, without_page};
+ghost use Rattle.nx_cache.specs.Cached.{bytes_listed, page_with, without_page};
 ghost use Rattle.nx_cached_host.specs.Kept.{address_in, KeptStand, GivesPage};
 
 use crate::kept::{KeptPages, address_in};
@@ -65,7 +65,7 @@ impl<H: Disk> CachedHost<H> {
     fn keep(&mut self, area: Area, at: u64, bytes: &[u8]) -> Result<(), NoMemory>
         requires page { length bytes.now ≡ page_size }
         requires given { (image : Image) → H.contents self.old.inner ≡ Some image → bytes.now ≡ given_at at page_size (area_of area image) }
-        ensures kept { OnOk result (self.new.kept.cache.pages ≡ take self.old.kept.cache.capacity ((address_in area at, page_of bytes.now) ∷ without_page (address_in area at) self.old.kept.cache.pages)) }
+        ensures kept { OnOk result (self.new.kept.cache.pages ≡ take self.old.kept.cache.capacity ((address_in area at, page_with bytes.now) ∷ without_page (address_in area at) self.old.kept.cache.pages)) }
         ensures inner { self.new.inner ≡ self.old.inner }
         ensures most { self.new.kept.cache.capacity ≡ self.old.kept.cache.capacity }
     {

@@ -1,7 +1,7 @@
 // Pages that were read lately, each as a read gives it.
 ghost use Rattle.std.specs.Prelude.{◌≡◌, ◌⊎◌, ◌^◌, ◌+◌, ◌<◌, ◌≤◌, [], ◌∷◌, length, take, true, is_some, Some, IfOk, OnOk, OnErr};
 ghost use Rattle.nx_numbers.specs.Sizes.{page_size};
-ghost use Rattle.nx_cache.specs.Cached.{bytes_listed, brought_to_front, page_of, without_page, EachListed};
+ghost use Rattle.nx_cache.specs.Cached.{bytes_listed, brought_to_front, page_with, without_page, EachListed};
 ghost use Rattle.nx_cached_host.specs.Kept.{address_in, end_in, EndsBy, LiesBefore};
 
 use nx_cache::{Address, PageCache};
@@ -49,7 +49,7 @@ impl KeptPages {
     pub(crate) fn copy(&mut self, address: Address, into: &mut [u8]) -> bool
         requires { length into.old ≡ page_size }
         ensures found { result ≡ is_some (bytes_listed address self.old.cache.pages) }
-        ensures copied { result ≡ true → bytes_listed address self.old.cache.pages ≡ Some (page_of into.new) }
+        ensures copied { result ≡ true → bytes_listed address self.old.cache.pages ≡ Some (page_with into.new) }
         ensures pages { self.new.cache.pages ≡ brought_to_front address self.old.cache.pages }
         ensures most { self.new.cache.capacity ≡ self.old.cache.capacity }
     {
@@ -67,7 +67,7 @@ impl KeptPages {
     /// Errors: `NoMemory`, also where no area goes so far. The same pages are kept as before then.
     pub(crate) fn keep(&mut self, area: Area, at: u64, page: &[u8]) -> Result<(), NoMemory>
         requires { length page.now ≡ page_size }
-        ensures ok { OnOk result (self.new.cache.pages ≡ take self.old.cache.capacity ((address_in area at, page_of page.now) ∷ without_page (address_in area at) self.old.cache.pages)) }
+        ensures ok { OnOk result (self.new.cache.pages ≡ take self.old.cache.capacity ((address_in area at, page_with page.now) ∷ without_page (address_in area at) self.old.cache.pages)) }
         ensures err { OnErr result (self.new.cache.pages ≡ self.old.cache.pages) }
         ensures most { self.new.cache.capacity ≡ self.old.cache.capacity }
     {

@@ -1,5 +1,5 @@
 use Rattle.std.proofs.Common.{sym, subst, arith}
-use Rattle.nx_cache.specs.Cached.{page_of}
+use Rattle.nx_cache.specs.Cached.{page_with}
 use Rattle.nx_cached_host.specs.Kept.{EndsBy}
 use Rattle.nx_cached_host.proofs.KeptLemmas.{ends_there, kept_put}
 use Rattle.nx_cached_host.proofs.kept.KeptPages.keep.Goals as goal
@@ -7,7 +7,7 @@ use Rattle.nx_cached_host.proofs.kept.KeptPages.keep.Goals as goal
 pub invariant_of-self : goal.invariant_of-self
 invariant_of-self c =
     let now = c.reach.new.self in
-    let page = page_of c.args.page.now in
+    let page = page_with c.args.page.now in
     let P = EndsBy now.pages_end now.log_end in
     record {
       within = kept_put P c.put.result now.cache.capacity c.address_in.result page now.cache.pages c.put.new.self.pages
