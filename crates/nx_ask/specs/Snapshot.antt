@@ -25,8 +25,8 @@ snapshot_image snapshot = pages_alone snapshot.bytes.items
 abbrev pub HasPagesOf : Snapshot → Image → Type 0
 HasPagesOf snapshot was = replay (snapshot_image snapshot) ≡ replay was
 
--- From a count of reads to another an image was read so often at most as taking a snapshot of it asks for: three times for each page with its number that the area of the log has room for, and four
--- times besides, for the log; and once for each of its pages.
+-- From a count of reads to another no more came than taking a snapshot of an image asks for: three for each page with its number that the area of the log has room for, four more for the log's end and
+-- the mark of page 0, and one for each number up to that of the greatest page.
 abbrev pub ReadsSnapshot : Image → ℕ → ℕ → Type 0
 ReadsSnapshot was before after = (count : ℕ) → IsPageCount count (replay was) → after ≤ before + (3 * (length was.log / entry_size + 1) + 1) + count
 

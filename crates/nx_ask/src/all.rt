@@ -38,8 +38,9 @@ pub fn answer_one<R: Threads + Sync>(
 /// and there are fewer than 4,294,967,296 questions.
 ///
 /// The questions are cut into as many rows as there are workers, or into rows of one where there are fewer questions. The rows have
-/// the same number of questions but for one. Each row is answered by a thread of its own, a single one by this thread, which opens a store of its
-/// own over the snapshot. The gate is told before and after each question, by its place.
+/// the same number of questions but for one. Each row is answered by a thread of its own, a single row by this one; whoever answers a row opens a
+/// store of its own over the snapshot. There is a thread for each row, and calls stand in each other as often. The gate is told before and after
+/// each question, by its place.
 ///
 /// Errors: as `answer_one`.
 pub fn answer_all<R: Threads + Sync, G: Gate>(
@@ -88,7 +89,7 @@ fn answer_by<R: Threads + Sync, G: Gate>(
 
 // The replies to questions of which the first one has this number. The last row is answered by a thread, and this one goes on with the
 // questions before it. So it begins all threads itself and then waits: Linux puts threads that one thread begins on processors of their own,
-// and those that they begin in turn beside them on the same.
+// and one that a new thread begins often beside that one.
 #[cycle(rows)]
 fn answer_rows<R: Threads + Sync, G: Gate>(
     rt: &R,

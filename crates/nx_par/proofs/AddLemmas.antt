@@ -22,10 +22,6 @@ same_at [] i d e lt = absurd (omega arith)
 same_at (x ∷ xs) zero d e lt = refl
 same_at (x ∷ xs) (suc i) d e lt = same_at xs i d e (omega arith)
 
--- what holds of all holds of the one that was read
-pub all_at : {X : Type 0} (P : X → Type 0) (xs : List X) (i : ℕ) (x : X) → All P xs → i < length xs → x ≡ get_or xs i x → P x
-all_at P xs i x all lt is = subst P (sym is) (all i x lt)
-
 -- the children of a tree within the limits are within them
 pub all_within : (tree : OrderedTree) (ts : List OrderedTree) → forest_of ts ≡ tree.below → IsWithinLimits tree → All IsWithinLimits ts
 all_within tree ts forest limits = λ i d lt. item_within tree ts i (get_or ts i d) forest lt (same_at ts i d (get_or ts i d) lt) limits

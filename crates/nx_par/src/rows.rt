@@ -1,4 +1,4 @@
-// Rows of trees, each bounded by a thread of its own.
+// Rows of trees, bounded beside each other: the first one by the thread that there is.
 ghost use Rattle.std.specs.Prelude.{◌≡◌, ◌<◌, ◌≤◌, [], length, IfOk, IfSome};
 ghost use Rattle.std.specs.Thread.{IsSync};
 ghost use Rattle.nx_tree.specs.Forest.{nodes};
@@ -95,8 +95,9 @@ pub fn bound_rows<R: Threads + Sync, G: Gate>(
     }
 }
 
-// The same for trees that are cut into two rows: a thread bounds the second one while this one goes on with the first. So one thread begins all that
-// bound rows of one worker: Linux puts those on processors of their own, and one that a new thread begins at once on the processor of that.
+// The same for trees that are cut into two rows: a thread bounds the second one while this one goes on with the first. So this thread begins one for
+// each last row; only where a last row has several workers does its own thread begin others. Linux puts threads that one thread begins on processors
+// of their own, and one that a new thread begins often beside that one.
 #[cycle(halves)]
 fn bound_at_once<R: Threads + Sync, G: Gate>(
     rt: &R,

@@ -18,9 +18,9 @@ use std::thread::Threads;
 /// same for every number of workers. The tree is a document or one in it, `k` is from 1 to 256, and there is at
 /// least one worker.
 ///
-/// The children of a node are cut into rows with about as many nodes each as there are workers, and each row is
-/// bounded by a thread. Where a row has one tree and several workers, its children are cut in turn.
-/// Rows with few nodes get no thread of their own.
+/// The children of a node are cut into as many rows as there are workers, with about as many nodes each, and the rows are
+/// bounded by threads, the first one by the thread that there is. Where a row has one tree and several workers, its children are cut in turn.
+/// Rows with few nodes get no thread of their own. There is up to a thread for each worker, and calls stand in each other as often.
 ///
 /// Where the root element of a document has at least two children, the gate is told of each of them, by its position, unless a
 /// node is too heavy or there is no memory.

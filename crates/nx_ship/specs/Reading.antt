@@ -34,7 +34,7 @@ pub record AreUnderWay (number : ℕ) (es : List Entry) : Type 0 where
   pub rises : rise 0 es ≡ true
   pub header : BeginsWithHeader number es
 
--- The head of a group was taken, these pages of it, and what the unit has.
+-- The head of a group was taken, these pages of it, and what `unit_of` has.
 pub record HoldsPages (r : Reader) (held : List ℕ) (es : List Entry) : Type 0 where
   pub number : big_number 8 held ≡ r.number
   pub count : count_in held ≡ r.count
@@ -47,7 +47,7 @@ pub record HoldsPages (r : Reader) (held : List ℕ) (es : List Entry) : Type 0 
   pub least : r.least ≡ least_behind 0 es
   pub header : 0 < length es → BeginsWithHeader r.number es
 
--- What the unit has of a head was taken.
+-- What `unit_of` has of a head was taken.
 pub record HoldsHead (r : Reader) (held : List ℕ) (es : List Entry) : Type 0 where
   pub same : held ≡ unit_of r
   pub none : es ≡ []
@@ -99,7 +99,7 @@ Feeds (Page n number) piece old new = (n ≤ length piece) × (number < most_pag
 Feeds (Last n number) piece old new = (n ≤ length piece) × (number < most_pages) × ((bytes : List ℕ) (groups : List Group) (es : List Entry) → HasFed old bytes groups es → TakesLastPage n (page_of number new) piece old new bytes groups es)
 Feeds (NotGood n) piece old new = (n ≤ length piece) × ((bytes : List ℕ) (groups : List Group) (es : List Entry) → HasFed old bytes groups es → IsSpoilt (bytes ++ take n piece) groups)
 
--- The head in the unit was taken.
+-- The head that is whole was taken.
 pub record TakesHead (old new : Reader) : Type 0 where
   pub number : new.number ≡ big_number 8 (unit_of old)
   pub count : new.count ≡ count_in (unit_of old)
@@ -109,7 +109,7 @@ pub record TakesHead (old new : Reader) : Type 0 where
   pub taken : new.taken ≡ 0
   pub least : new.least ≡ 0
 
--- the page in the unit
+-- the page that these bytes are
 abbrev pub page_in : List ℕ → Entry
 page_in unit = record { page = big_number 4 unit; bytes = take page_size (drop 4 unit) }
 
@@ -119,7 +119,7 @@ pub record MayFollow (r : Reader) (e : Entry) : Type 0 where
   pub low : e.page < most_pages
   pub header : r.taken ≡ 0 → BeginsWithHeader r.number (e ∷ [])
 
--- The page in the unit was taken.
+-- The page that is whole was taken.
 pub record TakesPage (page : Entry) (old new : Reader) : Type 0 where
   pub is : page ≡ page_in (unit_of old)
   pub next : MayFollow old page

@@ -9,7 +9,7 @@ use nx_lists::NoMemory;
 use nx_slots::PageBytes;
 use std::alloc::Global;
 
-// How many bytes the head of a group has, how many the number of a page of it, and how many both it and the page.
+// How many bytes the head of a group has, the number of a page, and a page with its number.
 const HEAD: usize = 12;
 
 const NUMBER: usize = 4;
@@ -102,7 +102,7 @@ impl Reader {
         Ok(Fed::Last(taken, page))
     }
 
-    // The page that was whole last.
+    // The page under way; behind `Page` or `Last` the one that is whole, up to the next `feed`.
     pub(crate) fn page(&self) -> &PageBytes
         ensures { result.now ≡ self.now.page }
     {
