@@ -88,6 +88,8 @@ impl<H: Disk> Disk for CachedHost<H> {
 
     ghost reads = { λ host. H.reads host.inner };
 
+    ghost renewed = { λ host. H.renewed host.inner };
+
     fn length(&mut self, area: Area) -> Result<u64, Failed> {
         self.inner.length(area)
     }
@@ -118,6 +120,10 @@ impl<H: Disk> Disk for CachedHost<H> {
             self.kept.forget();
         }
         synced
+    }
+
+    fn renew(&mut self, area: Area, at: u64) -> Result<(), Failed> {
+        self.inner.renew(area, at)
     }
 
     ghost contents_may_stay = { λ host. H.contents_may_stay host.inner };

@@ -10,8 +10,4 @@ mod made;
 #[cfg(test)]
 mod pages;
 #[cfg(test)]
-mod random;
-#[cfg(test)]
-mod sequences;
-#[cfg(test)]
 mod stores;

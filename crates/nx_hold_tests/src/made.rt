@@ -2,7 +2,6 @@
 ghost use Rattle.std.specs.Prelude.{IfOk};
 ghost use Rattle.nx_piece.specs.Valid.{AreNear, IsValidPiece};
 
-use nx_hold::TakenPiece;
 use nx_lists::NoMemory;
 use nx_piece::{Far, Item, Piece, PieceTree, Proxy, Stored, decode, decode_proxies, size, weight};
 use std::alloc::Global;
@@ -148,18 +147,6 @@ pub fn made(rt: &impl Abort, alloc: Global, form: Form) -> Result<Piece, NoMemor
     made_of(rt, alloc, form, list)
 }
 
-/// The piece of this form but for the proxy with this index, which names another slot.
-pub fn made_but(rt: &impl Abort, alloc: Global, form: Form, index: usize) -> Result<Piece, NoMemory>
-    ensures valid { IfOk result (λ piece. IsValidPiece piece) }
-    ensures near { IfOk result (λ piece. AreNear piece.body.roots) }
-{
-    let mut list = proxies(alloc, form)?;
-    if let Some(byte) = list.get_mut(index.saturating_mul(8).saturating_add(5)) {
-        *byte ^= 1;
-    }
-    made_of(rt, alloc, form, list)
-}
-
 // The piece of this form with these proxies.
 fn made_of(rt: &impl Abort, alloc: Global, form: Form, list: Vec<u8>) -> Result<Piece, NoMemory>
     ensures valid { IfOk result (λ piece. IsValidPiece piece) }
@@ -263,13 +250,6 @@ fn check_text(rt: &impl Abort, text: &PieceTree, slots: u8) {
 fn letter(index: usize) -> u8 {
     let letters = *b"contents";
     letters[index % 8]
-}
-
-/// Checks that what was taken away is a piece of this form: an element with its texts, none of which is far.
-pub fn check_taken(rt: &impl Abort, taken: &TakenPiece, form: Form) {
-    assert_eq!(rt; taken.nodes, u32::from(form.texts()) + 1);
-    assert!(rt; taken.fars.as_slice().is_empty());
-    check_proxies(rt, taken.proxies.as_slice(), form);
 }
 
 fn check_proxies(rt: &impl Abort, proxies: &[Proxy], form: Form) {

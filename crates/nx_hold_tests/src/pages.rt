@@ -7,7 +7,7 @@ use std::alloc::Global;
 use std::process::Abort;
 
 fn open(alloc: Global, host: &mut MemoryHost) -> Result<Wal, WalError> {
-    Wal::open(host, alloc)
+    Wal::open_to_read(host, alloc)
 }
 
 fn read_page(

@@ -81,16 +81,8 @@ impl Store {
         self.alloc
     }
 
-    pub fn has_free_page(&self) -> bool {
-        self.records.has_free_page()
-    }
-
     pub fn log_length(&self) -> u64 {
         self.records.log_length()
-    }
-
-    pub fn is_ended(&self) -> bool {
-        self.records.is_ended()
     }
 
     pub fn read(&mut self, place: Rid) -> Result<Piece, StoreError> {

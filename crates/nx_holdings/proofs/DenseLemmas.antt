@@ -50,7 +50,7 @@ named_there {pages} {head} by p (chained among) = ap is_some ((chain_there pages
 named_there {pages} {head} by p (unused among) = absurd (omega (arith, among))
 
 -- so is a page that isn't named
-below_there : {pages : Pages} {head : Header} {held : Held} (by : HoldsBy pages head held) (p : ℕ) → p < head.pages → IsSome (pages p)
+pub below_there : {pages : Pages} {head : Header} {held : Held} (by : HoldsBy pages head held) (p : ℕ) → p < head.pages → IsSome (pages p)
 below_there by p low = elim (some_or (times p (named by.behind.shares []))) [
   | inr none ↦ ap is_some (by.behind.shared.slotted p low none).there
   | inl some ↦ named_there by p (use_of by.behind.shares [] p some)

@@ -1,8 +1,9 @@
 -- How calls over a disk compose.
-use Rattle.std.proofs.Common.{◌≡◌, ◌≤◌, Option, None, Some, refl, sym, subst, ◌∙◌, arith}
+use Rattle.std.proofs.Common.{◌≡◌, ◌≤◌, ℕ, List, Option, None, Some, refl, sym, subst, ◌∙◌, arith}
 use Rattle.std.specs.Prelude.{IsSome}
 use Rattle.std.proofs.lemmas.Bool.{false≢true}
-use Rattle.nx_host.specs.Disk.{Image, HoldsBytes, no_bytes, Beside, Keeps, LeavesBeside}
+use Rattle.nx_host.specs.declared.disk.Area.{Area}
+use Rattle.nx_host.specs.Disk.{Image, HoldsBytes, no_bytes, Beside, Place, Keeps, Renews, IsRenewedLast, LeavesBeside}
 use Rattle.nx_host.specs.Time.{none_elapsed, elapsed_then, elapsed_weaker}
 use Rattle.nx_host.specs.Still.{IsStill, WritesAlone, IsSettled}
 use Rattle.nx_host.specs.declared.disk.Disk.{Ghosts}
@@ -37,6 +38,11 @@ beside_then {a = a} {b = b} {c = c} first second = record {
   in_faults = second.in_faults ∙ first.in_faults;
   out_faults = second.out_faults ∙ first.out_faults;
 }
+
+-- a byte that was renewed is the last one
+pub renews_last : (area : Area) (at : ℕ) (a b : Option (List Place)) → Renews area at a b → IsRenewedLast area at b
+renews_last area at a None renews = tt
+renews_last area at a (Some now) (was, told, grown) = (was, grown)
 
 module _ {D : Type 0} {d : Ghosts D} where
   -- before the first call

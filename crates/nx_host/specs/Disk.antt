@@ -1,5 +1,5 @@
 -- What a disk holds, and what its calls do to it.
-use Rattle.std.specs.Prelude.{◌≡◌, ℕ, ◌+◌, ◌-◌, ◌^◌, ◌<◌, ◌≤◌, List, [], length, take, drop, get_or, min, max, Option, IfSome, Some}
+use Rattle.std.specs.Prelude.{◌≡◌, ℕ, ◌+◌, ◌-◌, ◌^◌, ◌<◌, ◌≤◌, List, [], ◌∷◌, ◌++◌, length, take, drop, get_or, min, max, Option, IfSome, Some}
 use Rattle.nx_host.specs.declared.disk.Area.{Area}
 use Rattle.nx_host.specs.declared.disk.Area.TheVariants.{Pages, Log}
 
@@ -43,6 +43,22 @@ Rose before now = min (before + 1) (2 ^ 64 - 1) ≤ now
 -- what is told now was told before, and is the same
 abbrev pub Keeps : {T : Type 0} → Option T → Option T → Type 0
 Keeps old new = IfSome new (λ now. old ≡ Some now)
+
+-- a byte of a disk: its area and its offset
+pub record Place : Type 0 where
+  pub area : Area
+  pub at : ℕ
+
+-- Where it is still told which bytes were renewed, this one was besides, last.
+abbrev pub Renews : Area → ℕ → Option (List Place) → Option (List Place) → Type 0
+Renews area at old new =
+    IfSome new (λ now. (was : List Place) × (old ≡ Some was)
+    × (now ≡ was ++ record { area = area; at = at } ∷ []))
+
+-- Where it is told which bytes were renewed, this one is the last of them.
+abbrev pub IsRenewedLast : Area → ℕ → Option (List Place) → Type 0
+IsRenewedLast area at told =
+    IfSome told (λ now. (earlier : List Place) × (now ≡ earlier ++ record { area = area; at = at } ∷ []))
 
 -- What stands beside the disk is left as it was. Input and output may be told no longer.
 pub record LeavesBeside (old new : Beside) : Type 0 where

@@ -4,7 +4,7 @@ use Rattle.nx_host.specs.Disk.{Image, Keeps, LeavesBeside}
 use Rattle.nx_host.specs.Time.{Elapses}
 use Rattle.nx_host.specs.declared.disk.Disk.{Ghosts}
 
--- From old to new the disk was asked alone.
+-- From old to new the disk was asked alone, or given a byte once more that it had.
 pub record IsStill {D : Type 0} (d : Ghosts D) (old new : D) : Type 0 where
   pub contents_stay : d.contents new ≡ d.contents old
   pub images_stay : (i : Image) → d.may_leave new i ↔ d.may_leave old i

@@ -1,6 +1,6 @@
 // A disk of two areas.
-ghost use Rattle.std.specs.Prelude.{◌≡◌, ◌↔◌, ℕ, ◌+◌, ◌*◌, ◌^◌, ◌≤◌, List, length, take, drop, Option, Some, IsSome, IfSome, IfOk, OnOk, OnErr};
-ghost use Rattle.nx_host.specs.Disk.{Image, AreBytes, HoldsBytes, area_of, Beside, Rose, Keeps, LeavesBeside, WritesTo, TearsIn, ComesTorn, IsDurable, given_at};
+ghost use Rattle.std.specs.Prelude.{◌≡◌, ◌⊎◌, ◌↔◌, ℕ, ◌+◌, ◌*◌, ◌^◌, ◌≤◌, List, length, take, drop, Option, Some, IsSome, IfSome, IfOk, OnOk, OnErr};
+ghost use Rattle.nx_host.specs.Disk.{Image, Place, AreBytes, HoldsBytes, area_of, Beside, Rose, Keeps, Renews, LeavesBeside, WritesTo, TearsIn, ComesTorn, IsDurable, given_at};
 ghost use Rattle.nx_host.specs.Time.{Stood, Elapses};
 
 use thiserror::Error;
@@ -45,6 +45,9 @@ pub trait Disk {
     /// How often `read` was called.
     ghost reads: { Self → ℕ };
 
+    /// The bytes that `renew` gave to the disk once more, in this order.
+    ghost renewed: { Self → Option (List Place) };
+
     /// The length of an area in bytes.
     ///
     /// Errors: `Failed`, only where `faults` rose.
@@ -56,6 +59,7 @@ pub trait Disk {
         ensures time { Elapses moment stood_since self.old self.new
             (λ s. Keeps (beside self.old).output s.output × may_leave self.old s.image) }
         ensures reads { reads self.new ≡ reads self.old }
+        ensures renewed { Keeps (renewed self.old) (renewed self.new) }
         ensures faults { faults self.old ≤ faults self.new }
         ensures cause { OnErr result (Rose (faults self.old) (faults self.new)) };
 
@@ -73,6 +77,7 @@ pub trait Disk {
         ensures time { Elapses moment stood_since self.old self.new
             (λ s. Keeps (beside self.old).output s.output × may_leave self.old s.image) }
         ensures reads { (reads self.old ≤ reads self.new) × (reads self.new ≤ reads self.old + 1) }
+        ensures renewed { Keeps (renewed self.old) (renewed self.new) }
         ensures faults { faults self.old ≤ faults self.new }
         ensures cause { OnErr result (Rose (faults self.old) (faults self.new)) };
 
@@ -91,6 +96,7 @@ pub trait Disk {
         ensures time { Elapses moment stood_since self.old self.new
             (λ s. Keeps (beside self.old).output s.output × ComesTorn area at (length bytes.now) (may_leave self.old) s.image) }
         ensures reads { reads self.new ≡ reads self.old }
+        ensures renewed { Keeps (renewed self.old) (renewed self.new) }
         ensures faults { faults self.old ≤ faults self.new }
         ensures cause { OnErr result (Rose (faults self.old) (faults self.new)) };
 
@@ -103,6 +109,24 @@ pub trait Disk {
         ensures contents { OnOk result (Keeps (contents self.old) (contents self.new)) }
         ensures durable { OnOk result (IfSome (contents self.new) (IsDurable area (may_leave self.new))) }
         ensures images { (i : Image) → may_leave self.new i → may_leave self.old i }
+        ensures beside { LeavesBeside (beside self.old) (beside self.new) }
+        ensures time { Elapses moment stood_since self.old self.new
+            (λ s. Keeps (beside self.old).output s.output × may_leave self.old s.image) }
+        ensures reads { reads self.new ≡ reads self.old }
+        ensures renewed { Keeps (renewed self.old) (renewed self.new) }
+        ensures faults { faults self.old ≤ faults self.new }
+        ensures cause { OnErr result (Rose (faults self.old) (faults self.new)) };
+
+    /// Gives the byte that stands at `at` to the disk once more, and makes the area durable. A byte that
+    /// a read gives out of memory, though a sync failed that was to make it durable, is on the disk
+    /// afterwards.
+    ///
+    /// Errors: `Failed`, only where `faults` rose. It may also fail where the area has no byte there.
+    fn renew(&mut self, area: Area, at: u64) -> Result<(), Failed>
+        ensures ok { OnOk result (Renews area at (renewed self.old) (renewed self.new)) }
+        ensures failed { OnErr result (Keeps (renewed self.old) (renewed self.new) ⊎ Renews area at (renewed self.old) (renewed self.new)) }
+        ensures contents { contents self.new ≡ contents self.old }
+        ensures images { (i : Image) → may_leave self.new i ↔ may_leave self.old i }
         ensures beside { LeavesBeside (beside self.old) (beside self.new) }
         ensures time { Elapses moment stood_since self.old self.new
             (λ s. Keeps (beside self.old).output s.output × may_leave self.old s.image) }

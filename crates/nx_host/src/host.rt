@@ -24,6 +24,7 @@ pub trait Host: Disk {
         ensures time { Elapses Self.moment Self.stood_since self.old self.new
             (λ s. Keeps (Self.beside self.old).output s.output × Self.may_leave self.old s.image) }
         ensures reads { Self.reads self.new ≡ Self.reads self.old }
+        ensures renewed { Keeps (Self.renewed self.old) (Self.renewed self.new) }
         ensures faults { Self.faults self.new ≡ Self.faults self.old }
         ensures out_faults { (Self.beside self.new).out_faults ≡ (Self.beside self.old).out_faults }
         ensures in_faults { (Self.beside self.old).in_faults ≤ (Self.beside self.new).in_faults }
@@ -42,6 +43,7 @@ pub trait Host: Disk {
         ensures time { Elapses Self.moment Self.stood_since self.old self.new
             (λ s. AppendsPrefix bytes.now (Self.beside self.old).output s.output × Self.may_leave self.old s.image) }
         ensures reads { Self.reads self.new ≡ Self.reads self.old }
+        ensures renewed { Keeps (Self.renewed self.old) (Self.renewed self.new) }
         ensures faults { Self.faults self.new ≡ Self.faults self.old }
         ensures in_faults { (Self.beside self.new).in_faults ≡ (Self.beside self.old).in_faults }
         ensures out_faults { (Self.beside self.old).out_faults ≤ (Self.beside self.new).out_faults }

@@ -88,3 +88,27 @@ fn a_step_is_taken_whole_or_not_at_all(rt: HostRuntime) -> Result<(), Fail> {
     }
     Ok(())
 }
+
+// To open a log with a group takes one call more than to open it to read alone: the one that renews its gate.
+#[test]
+fn a_renewal_that_fails_opens_no_log(rt: HostRuntime) -> Result<(), Fail> {
+    let alloc = rt.alloc();
+    let mut host = empty_host(alloc)?;
+    let mut wal = Wal::create(&mut host, alloc)?;
+    commit_two(&rt, &mut host, &mut wal, [(0, 1), (1, 1)])??;
+    let mut reading = 0u64;
+    let mut opening = 0u64;
+    for calls in 0..CALLS {
+        host.stop_after(calls);
+        if Wal::open_to_read(&mut host, alloc).is_ok() {
+            reading = reading.saturating_add(1);
+        }
+        host.stop_after(calls);
+        if Wal::open(&mut host, alloc).is_ok() {
+            opening = opening.saturating_add(1);
+        }
+    }
+    assert!(rt; 0 < opening);
+    assert_eq!(rt; opening.saturating_add(1), reading);
+    Ok(())
+}

@@ -1,6 +1,7 @@
 -- The host in memory that fails as it is told to.
-use Rattle.std.specs.Prelude.{◌≡◌, ◌⊎◌, ◌↔◌, ℕ, ◌+◌, ◌-◌, ◌^◌, ◌<◌, Bool, true, false, List, [], length, min}
-use Rattle.nx_host.specs.Disk.{Image}
+use Rattle.std.specs.Prelude.{◌≡◌, ◌⊎◌, ◌↔◌, ℕ, ◌+◌, ◌-◌, ◌^◌, ◌<◌, Bool, true, false, List, [], length, map, min}
+use Rattle.nx_host.specs.Disk.{Image, Place, area_of}
+use Rattle.nx_host.specs.declared.disk.Area.{Area}
 use Rattle.nx_memory.specs.declared.calls.Calls.{Calls}
 use Rattle.nx_memory.specs.declared.calls.Counts.{Counts}
 use Rattle.nx_memory.specs.declared.host.MemoryHost.{MemoryHost}
@@ -9,6 +10,7 @@ use Rattle.nx_host.specs.Time.{Stood, Elapses}
 use Rattle.nx_memory.specs.History.{MayLeave, StoodSince}
 use Rattle.nx_memory.specs.declared.image.Image as given
 use Rattle.nx_memory.specs.declared.memory.Memory.{Memory}
+use Rattle.nx_memory.specs.declared.renewals.Renewals.{Renewals}
 use Rattle.nx_memory.specs.Source.{bytes_left}
 use Rattle.nx_memory.specs.Memory.{changes_of, present_of, areas_of, output_of}
 
@@ -19,6 +21,15 @@ next_fails host = fails (next_call_number host.calls) host.calls
 -- a count that rose by one, up to 2^64 - 1
 abbrev pub raised : ℕ → ℕ
 raised count = min (count + 1) (2 ^ 64 - 1)
+
+-- the bytes that were renewed, in order
+abbrev pub renewed_of : Renewals → List Place
+renewed_of renewals = map (λ r. record { area = r.area; at = r.at }) renewals.bytes.items
+
+-- The area has the byte, and there is room to note it.
+pub record MayBeRenewed (area : Area) (at : ℕ) (host : MemoryHost) : Type 0 where
+  pub here : at < length (area_of area (areas_of host.memory))
+  pub room : length host.renewals.bytes.items < 64
 
 -- A call failed: it left these counts, and all else as it was.
 pub record FailsCall (counts : Counts) (old new : MemoryHost) : Type 0 where

@@ -1,5 +1,5 @@
 // The host in memory that tells everything, and fails as it is told to.
-ghost use Rattle.std.specs.Prelude.{◌≡◌, ◌↔◌, ◌+◌, ◌*◌, ◌^◌, ◌<◌, ◌≤◌, ◌++◌, [], length, take, drop, min, true, false, Some, IfOk, OnOk, OnErr};
+ghost use Rattle.std.specs.Prelude.{◌≡◌, ◌↔◌, ◌+◌, ◌*◌, ◌^◌, ◌<◌, ◌≤◌, ◌++◌, ◌∷◌, [], length, take, drop, min, true, false, Some, IfOk, OnOk, OnErr};
 ghost use Rattle.nx_memory.specs.Source.{bytes_left};
 ghost use Rattle.nx_memory.specs.Memory.{changes_of, present_of, areas_of, output_of};
 ghost use Rattle.nx_memory.specs.History.{MayLeave, StoodSince};
@@ -9,21 +9,23 @@ use crate::calls::{Calls, Counts};
 use crate::history::Change;
 use crate::image::{Choice, Image};
 use crate::memory::Memory;
+use crate::renewals::Renewals;
 use nx_host::{Area, Disk, Failed, Host};
 use nx_lists::NoMemory;
 use nx_tree::Bytes;
 use std::alloc::Global;
 
 /// A host in memory. It tells its contents, its input and its output, and the images and outputs at
-/// every moment since it was made.
+/// every moment since it was made, and which bytes were renewed.
 ///
-/// Its calls are numbered from 1 over all six kinds, and those fail that it is told to fail. A call
+/// Its calls are numbered from 1 over all seven kinds, and those fail that it is told to fail. A call
 /// that fails raises its count of faults, and leaves the areas, the images, the input and the output
 /// as they were.
 #[derive(Drop)]
 pub struct MemoryHost {
     alloc: Global,
     memory: Memory,
+    renewals: Renewals,
     // The most bytes that one `read_in` gives.
     piece: u32,
     calls: Calls,
@@ -32,7 +34,7 @@ pub struct MemoryHost {
 }
 
 impl MemoryHost {
-    ghost use Rattle.nx_memory.specs.Host.{raised, areas_in, no_counts, IsFresh, HasOnly, HasRoomToGrow, HostMayLeave, NoneFails};
+    ghost use Rattle.nx_memory.specs.Host.{raised, areas_in, no_counts, renewed_of, IsFresh, HasOnly, HasRoomToGrow, HostMayLeave, NoneFails};
     ghost use Rattle.nx_memory.specs.Crash.{crash_image};
     ghost use Rattle.nx_memory.specs.Calls.{fails};
     ghost use Rattle.std.specs.Prelude.{◌-◌, ◌==◌, ◌||◌, ℕ};
@@ -43,7 +45,7 @@ impl MemoryHost {
     ///
     /// Each area may grow by `room` bytes, at most 4,294,967,296, the output and the history of the calls take at most
     /// `room` each: the history takes 32 bytes for each `write_at`, `sync` and `emit` that succeeded,
-    /// and for a `write_at` also those that it wrote over. A call for which there is no room fails.
+    /// and for a `write_at` also those that it wrote over. 64 bytes may be renewed. A call for which there is no room fails.
     ///
     /// Errors: `NoMemory`.
     pub fn new(
@@ -59,12 +61,14 @@ impl MemoryHost {
         ensures settled { IfOk result (λ host. HasOnly host (areas_in image)) }
         ensures room { IfOk result (λ host. HasRoomToGrow room image host.memory) }
         ensures piece { IfOk result (λ host. host.piece ≡ piece) }
+        ensures renewals { IfOk result (λ host. renewed_of host.renewals ≡ []) }
         ensures counts { IfOk result (λ host. host.counts ≡ no_counts) }
         ensures calls { IfOk result (λ host. (host.calls.made ≡ 0) × NoneFails host.calls) }
     {
         Ok(MemoryHost {
             alloc,
             memory: Memory::new(alloc, image, input, room)?,
+            renewals: Renewals::new(alloc)?,
             piece,
             calls: Calls::new(alloc),
             counts: Counts::default(),
@@ -143,7 +147,7 @@ impl MemoryHost {
 }
 
 impl Disk for MemoryHost {
-    ghost use Rattle.nx_memory.specs.Host.{next_fails, raised, Passes, FailsCall, MayFail, HostElapses, HostMayLeave, AreAmong};
+    ghost use Rattle.nx_memory.specs.Host.{next_fails, raised, renewed_of, Passes, FailsCall, MayFail, HostElapses, HostMayLeave, AreAmong, MayBeRenewed};
     ghost use Rattle.nx_memory.specs.Memory.{AddsChange, HasRoomToWrite, HasRoomToSync};
     ghost use Rattle.nx_host.specs.Disk.{WritesTo, ComesTorn, IsDurable, Keeps, area_of, given_at};
 
@@ -166,6 +170,8 @@ impl Disk for MemoryHost {
 
     ghost reads = { λ host. host.counts.reads };
 
+    ghost renewed = { λ host. Some (renewed_of host.renewals) };
+
     ghost contents_may_stay = { λ host image is. contents_stay (changes_of host.memory) (present_of host.memory) host.memory.sound image is };
 
     ghost told_before = { λ host t s le since is_told. told (changes_of host.memory) (present_of host.memory) t s since };
@@ -185,6 +191,7 @@ impl Disk for MemoryHost {
     ghost input_is_bytes = { λ host input is. left_are_bytes host.memory.source input is };
 
     fn length(&mut self, area: Area) -> Result<u64, Failed>
+        ensures renewals { self.new.renewals ≡ self.old.renewals }
         ensures passes { OnOk result (Passes self.old.counts (Unit {0}) self.old self.new) }
         ensures value { IfOk result (λ n. n ≡ length (area_of area (areas_of self.old.memory))) }
         ensures memory { self.new.memory ≡ self.old.memory }
@@ -199,6 +206,7 @@ impl Disk for MemoryHost {
     }
 
     fn read(&mut self, area: Area, at: u64, into: &mut [u8]) -> Result<usize, Failed>
+        ensures renewals { self.new.renewals ≡ self.old.renewals }
         ensures passes { OnOk result (Passes (record self.old.counts { reads = raised self.old.counts.reads }) (Unit {0}) self.old self.new) }
         ensures count { IfOk result (λ n. n ≡ length (given_at at (length into.old) (area_of area (areas_of self.old.memory)))) }
         ensures bytes { IfOk result (λ n. take n into.new ≡ given_at at (length into.old) (area_of area (areas_of self.old.memory))) }
@@ -217,6 +225,7 @@ impl Disk for MemoryHost {
 
     fn write_at(&mut self, area: Area, at: u64, bytes: &[u8]) -> Result<(), Failed>
         requires { at + length bytes.now ≤ 2 ^ 63 }
+        ensures renewals { self.new.renewals ≡ self.old.renewals }
         ensures passes { OnOk result (Passes self.old.counts (HasRoomToWrite area at (length bytes.now) self.old.memory) self.old self.new) }
         ensures written { OnOk result (WritesTo area at bytes.now (areas_of self.old.memory) (areas_of self.new.memory)) }
         ensures adds { OnOk result (AddsChange (Change.Write area at (length bytes.now) (length (area_of area (areas_of self.old.memory)))) self.old.memory self.new.memory) }
@@ -236,6 +245,7 @@ impl Disk for MemoryHost {
     }
 
     fn sync(&mut self, area: Area) -> Result<(), Failed>
+        ensures renewals { self.new.renewals ≡ self.old.renewals }
         ensures passes { OnOk result (Passes self.old.counts (HasRoomToSync self.old.memory) self.old self.new) }
         ensures areas { areas_of self.new.memory ≡ areas_of self.old.memory }
         ensures adds { OnOk result (AddsChange (Change.Sync area) self.old.memory self.new.memory) }
@@ -254,6 +264,24 @@ impl Disk for MemoryHost {
         }
         Ok(())
     }
+
+    fn renew(&mut self, area: Area, at: u64) -> Result<(), Failed>
+        ensures passes { OnOk result (Passes self.old.counts (MayBeRenewed area at self.old) self.old self.new) }
+        ensures renewed { OnOk result (renewed_of self.new.renewals ≡ renewed_of self.old.renewals ++ record { area = area; at = at } ∷ []) }
+        ensures memory { self.new.memory ≡ self.old.memory }
+        ensures refuses { OnErr result (FailsCall (record self.old.counts { faults = raised self.old.counts.faults }) self.old self.new) }
+        ensures unrenewed { OnErr result (self.new.renewals ≡ self.old.renewals) }
+        ensures reason { OnErr result (MayFail (MayBeRenewed area at self.old) self.old) }
+        ensures faults { self.old.counts.faults ≤ self.new.counts.faults }
+    {
+        if self.calls.next_fails() {
+            return Err(self.fault());
+        }
+        if at >= self.memory.length(area) || !self.renewals.add(area, at) {
+            return Err(self.fault());
+        }
+        Ok(())
+    }
 }
 
 impl Host for MemoryHost {
@@ -262,6 +290,7 @@ impl Host for MemoryHost {
     ghost use Rattle.nx_host.specs.Host.{AppendsPrefix};
 
     fn read_in(&mut self, into: &mut [u8]) -> Result<usize, Failed>
+        ensures renewals { self.new.renewals ≡ self.old.renewals }
         ensures passes { OnOk result (Passes self.old.counts (Unit {0}) self.old self.new) }
         ensures count { IfOk result (λ n. n ≡ min (min self.old.piece (length into.old)) (length (bytes_left self.old.memory.source))) }
         ensures bytes { IfOk result (λ n. take n into.new ≡ take n (bytes_left self.old.memory.source)) }
@@ -279,6 +308,7 @@ impl Host for MemoryHost {
     }
 
     fn emit(&mut self, bytes: &[u8]) -> Result<(), Failed>
+        ensures renewals { self.new.renewals ≡ self.old.renewals }
         ensures passes { OnOk result (Passes self.old.counts (HasRoomToEmit (length bytes.now) self.old.memory) self.old self.new) }
         ensures output { OnOk result (output_of self.new.memory ≡ output_of self.old.memory ++ bytes.now) }
         ensures areas { areas_of self.new.memory ≡ areas_of self.old.memory }

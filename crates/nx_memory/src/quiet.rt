@@ -9,6 +9,7 @@ ghost use Rattle.nx_memory.specs.Quiet.{told_of, moment_at, QuietSince, quiet_co
 use crate::history::Change;
 use crate::image::{Choice, Image};
 use crate::memory::Memory;
+use crate::renewals::Renewals;
 use nx_host::{Area, Disk, Failed, Host};
 use nx_lists::NoMemory;
 use nx_tree::Bytes;
@@ -16,7 +17,7 @@ use std::alloc::Global;
 
 /// A host in memory that never fails. It tells what `MemoryHost` tells, until a call comes for which
 /// there is no room: then and from then on it writes and gives nothing, and tells its areas and its
-/// output no longer.
+/// output no longer. Which bytes were renewed it tells as long as they are 64 at most.
 #[derive(Drop)]
 pub struct QuietHost {
     alloc: Global,
@@ -24,10 +25,13 @@ pub struct QuietHost {
     // Whether a call came for which there was no room.
     full: bool,
     reads: u64,
+    renewals: Renewals,
+    // Whether more were renewed.
+    missed: bool,
 }
 
 impl QuietHost {
-    ghost use Rattle.nx_memory.specs.Host.{IsFresh, HasRoomToGrow, areas_in};
+    ghost use Rattle.nx_memory.specs.Host.{IsFresh, HasRoomToGrow, areas_in, renewed_of};
     ghost use Rattle.nx_memory.specs.Crash.{crash_image};
 
     /// A host of these areas, with nothing unsynced, and this input. The output is empty.
@@ -42,12 +46,15 @@ impl QuietHost {
         ensures room { IfOk result (λ host. HasRoomToGrow room image host.memory) }
         ensures told { IfOk result (λ host. host.full ≡ false) }
         ensures reads { IfOk result (λ host. host.reads ≡ 0) }
+        ensures renewals { IfOk result (λ host. (renewed_of host.renewals ≡ []) × (host.missed ≡ false)) }
     {
         Ok(QuietHost {
             alloc,
             memory: Memory::new(alloc, image, input, room)?,
             full: false,
             reads: 0,
+            renewals: Renewals::new(alloc)?,
+            missed: false,
         })
     }
 
@@ -79,7 +86,7 @@ impl QuietHost {
 impl Disk for QuietHost {
     ghost use Rattle.nx_host.specs.Disk.{WritesTo, ComesTorn, IsDurable, Keeps, LeavesBeside, area_of};
     ghost use Rattle.nx_memory.specs.Memory.{HasRoomToWrite, HasRoomToSync};
-    ghost use Rattle.nx_memory.specs.Host.{AreAmong};
+    ghost use Rattle.nx_memory.specs.Host.{AreAmong, renewed_of};
     ghost use Rattle.nx_memory.specs.QuietHost.{GoesOnTelling, IsUsedUp, QuietMayLeave, QuietElapses, quiet_beside};
 
     ghost contents = { λ host. told_of host.full (areas_of host.memory) };
@@ -100,6 +107,8 @@ impl Disk for QuietHost {
     ghost faults = { λ _. 0 };
 
     ghost reads = { λ host. host.reads };
+
+    ghost renewed = { λ host. told_of host.missed (renewed_of host.renewals) };
 
     ghost contents_may_stay = { λ host image is. quiet_contents (changes_of host.memory) (present_of host.memory) host.full host.memory.sound image is };
 
@@ -139,6 +148,7 @@ impl Disk for QuietHost {
         ensures beside { LeavesBeside (quiet_beside self.old) (quiet_beside self.new) }
         ensures time { QuietElapses self.old self.new (λ s. Keeps (quiet_beside self.old).output s.output × ComesTorn area at (length bytes.now) (QuietMayLeave self.old) s.image) }
         ensures reads { self.new.reads ≡ self.old.reads }
+        ensures renewals { (self.new.renewals ≡ self.old.renewals) × (self.new.missed ≡ self.old.missed) }
     {
         if self.full {
             return Ok(());
@@ -161,6 +171,7 @@ impl Disk for QuietHost {
         ensures beside { LeavesBeside (quiet_beside self.old) (quiet_beside self.new) }
         ensures time { QuietElapses self.old self.new (λ s. Keeps (quiet_beside self.old).output s.output × QuietMayLeave self.old s.image) }
         ensures reads { self.new.reads ≡ self.old.reads }
+        ensures renewals { (self.new.renewals ≡ self.old.renewals) × (self.new.missed ≡ self.old.missed) }
     {
         if self.full {
             return Ok(());
@@ -169,6 +180,13 @@ impl Disk for QuietHost {
             return Ok(());
         }
         self.full = true;
+        Ok(())
+    }
+
+    fn renew(&mut self, area: Area, at: u64) -> Result<(), Failed> {
+        if !self.renewals.add(area, at) {
+            self.missed = true;
+        }
         Ok(())
     }
 }
@@ -195,6 +213,7 @@ impl Host for QuietHost {
         ensures images { AreSame (QuietMayLeave self.new) (QuietMayLeave self.old) }
         ensures time { QuietElapses self.old self.new (λ s. AppendsPrefix bytes.now (quiet_beside self.old).output s.output × QuietMayLeave self.old s.image) }
         ensures reads { self.new.reads ≡ self.old.reads }
+        ensures renewals { (self.new.renewals ≡ self.old.renewals) × (self.new.missed ≡ self.old.missed) }
     {
         if self.full {
             return Ok(());

@@ -4,6 +4,7 @@ pub mod StepLemmas
 pub mod LeaveLemmas
 pub mod RefusalLemmas
 pub mod FirstLemmas
+pub mod LostLemmas
 pub mod ChainLemmas
 pub mod ReadingLemmas
 pub mod WritingLemmas

@@ -1,9 +1,12 @@
 -- Why a call of records gives up, and what it leaves.
-use Rattle.std.specs.Prelude.{◌≡◌, ◌<◌, ℕ, true, false, None, IsSome}
+use Rattle.std.specs.Prelude.{◌≡◌, ◌⊎◌, ◌<◌, ℕ, true, false, Some, None, IsSome}
 use Rattle.nx_host.specs.Disk.{Image, Rose}
 use Rattle.nx_host.specs.declared.disk.Disk.{Ghosts}
 use Rattle.nx_host.specs.Still.{IsSettled, IsStill}
 use Rattle.nx_replay.specs.Log.{Group, replay, HasGroup}
+use Rattle.nx_wal.specs.Lost.{IsFirstLost, LosesNone}
+use Rattle.nx_holdings.specs.declared.header.Header.{Header}
+use Rattle.nx_holdings.specs.Header.{header_bytes, IsInRange}
 use Rattle.nx_holdings.specs.declared.header.Settings.{Settings}
 use Rattle.nx_records.specs.Changes.{nothing_held}
 use Rattle.nx_holdings.specs.Holdings.{Held, Holds}
@@ -101,11 +104,31 @@ NotCreated d (error.Damaged page) before after = ⊥
 NotCreated d error.NotAStore before after = ⊥
 NotCreated d error.Full before after = ⊥
 
+-- page 0 is no header
+abbrev pub LacksHeader : Image → Type 0
+LacksHeader was = (head : Header) → replay was 0 ≡ Some (header_bytes head) → IsInRange head → ⊥
+
+-- The pages area has no page, and of the pages below the header's number this is the first that no group of the log has.
+pub record HasLost (page : ℕ) (was : Image) : Type 0 where
+  pub head : Header
+  pub here : replay was 0 ≡ Some (header_bytes head)
+  pub range : IsInRange head
+  pub lost : IsFirstLost page head.pages was
+
+-- where the pages area has no page, a group of the log has each page below the header's number
+abbrev pub HasLostNone : Image → Type 0
+HasLostNone was = (head : Header) → replay was 0 ≡ Some (header_bytes head) → IsInRange head → LosesNone head.pages was
+
+-- The page is one that opening looks at, and isn't as it has to be: page 0 is no header, or the first page that is lost is this one.
+abbrev pub ShowsDamage : ℕ → Image → Type 0
+ShowsDamage page was = (page ≡ 0) × LacksHeader was ⊎ HasLost page was
+
 -- Why none was opened.
 abbrev pub NoRecordsOpened : {D : Type 0} → Ghosts D → StoreError → D → D → Type 0
 NoRecordsOpened d error.Disk before after = Rose (d.faults before) (d.faults after)
 NoRecordsOpened d error.NotAStore before after = (was : Image) → IsSettled d before was → HasHeader was → ⊥
-NoRecordsOpened d (error.Damaged page) before after = (page ≡ 0) × ((was : Image) → IsSettled d before was → HasHeader was × ((held : Held) → Holds (replay was) held → ⊥))
+NoRecordsOpened d (error.Damaged page) before after =
+    ((was : Image) → IsSettled d before was → ShowsDamage page was) × ((was : Image) → IsSettled d before was → HasHeader was × ((held : Held) → Holds (replay was) held → ⊥))
 NoRecordsOpened d error.Memory before after = Unit {0}
 NoRecordsOpened d error.Ended before after = ⊥
 NoRecordsOpened d error.Exists before after = ⊥

@@ -2,10 +2,12 @@
 ghost use Rattle.std.specs.Prelude.{List as Items, ◌≡◌, ◌≢◌, ◌⊎◌, ◌+◌, ◌*◌, ◌/◌, ◌^◌, ◌<◌, ◌≤◌, [], ℕ, length, true, false, Some, None, IsSome, IfOk, IfErr, IfSome, OnOk};
 ghost use Rattle.std.proofs.Props.{props};
 ghost use Rattle.nx_numbers.specs.Sizes.{entry_size, longest_record};
-ghost use Rattle.nx_host.specs.Disk.{Image};
+ghost use Rattle.nx_host.specs.Disk.{Image, IsRenewedLast};
+ghost use Rattle.nx_host.specs.declared.disk.Area.TheVariants.{Log};
 ghost use Rattle.nx_host.specs.Still.{IsStill, IsSettled, WritesAlone};
 ghost use Rattle.nx_replay.specs.Log.{entry_pages, groups, replay, group_size, Stays, HasSame, HasGroup};
 ghost use Rattle.nx_wal.specs.Wal.{pending, next_group, wal_ended};
+ghost use Rattle.nx_wal.specs.Renewing.{IsRenewed, last_gate};
 ghost use Rattle.nx_holdings.specs.Header.{AreSettings, IsInRange, header_bytes, newest_format};
 ghost use Rattle.nx_holdings.specs.Holdings.{Held, Holds};
 ghost use Rattle.nx_records.specs.Numbering.{IsNextHeader};
@@ -60,7 +62,7 @@ impl Records {
     ghost use Rattle.nx_records.specs.Records.{HasSaved, StandsFor, KeepsSaved, KeepsLog, LeavesRecords, FollowsOn, ComesTo, HasChanges, HasNoChanges, HasHeader, IsInStepWith, PutsChangedAlone, current_pages, has_ended, has_free, settings_of, format_of, log_length_of, last_number, next_number};
     ghost use Rattle.nx_records.specs.Changes.{nothing_held, AddsRecord, UpdatesRecord, RemovesRecord, update_needs};
     ghost use Rattle.nx_records.specs.Room.{FitsRoom, HasRoomFor, TakesNoPage};
-    ghost use Rattle.nx_records.specs.Refusals.{IsNewStore, NotRead, NotChanged, NotStored, NotWritten, NotCreated, NoRecordsOpened, RunsOn};
+    ghost use Rattle.nx_records.specs.Refusals.{IsNewStore, NotRead, NotChanged, NotStored, NotWritten, NotCreated, NoRecordsOpened, HasLostNone, RunsOn};
 
     /// A store on a disk that has no pages, committed: with these settings, and without records,
     /// lists, and documents in its catalog. The settings are in range: K from 1 to 256, a target of at
@@ -105,12 +107,10 @@ impl Records {
         })
     }
 
-    /// The records of a disk that has a store. It reads the log by its heads and page numbers, and
-    /// one page. Nothing is written.
+    /// As `open_to_read`, for a session that may commit: it renews what `Wal::open` renews, before anything is
+    /// built on it.
     ///
-    /// Errors: `NotAStore` exactly where page 0 is missing or doesn't begin with the eight bytes
-    /// `NATIXST1`; `Damaged` with page 0, only where the pages aren't sound; `Disk`, only where
-    /// `faults` rose; `Memory`.
+    /// Errors: as `open_to_read`.
     pub fn open<D: Disk>(alloc: Global, disk: &mut D) -> Result<Records, StoreError>
         ensures still { IsStill D.Disk disk.old disk.new }
         ensures ok { IfOk result (λ records. (was : Image) (held : Held) → IsSettled D.Disk disk.old was → Holds (replay was) held → StandsFor D.Disk records disk.new held held) }
@@ -118,9 +118,60 @@ impl Records {
         ensures header { IfOk result (λ records. (was : Image) → IsSettled D.Disk disk.old was → replay was 0 ≡ Some (header_bytes records.saved)) }
         ensures fresh { IfOk result (λ records. (has_ended records ≡ false) × HasNoChanges records) }
         ensures reads { IfSome (D.contents disk.old) (λ was. D.reads disk.new ≤ D.reads disk.old + (3 * (length was.log / entry_size + 1) + 2)) }
+        ensures whole { IfOk result (λ records. (was : Image) → IsSettled D.Disk disk.old was → HasLostNone was) }
+        ensures renewed { OnOk result (IsRenewed D.Disk disk.old disk.new) }
         ensures refused { IfErr result (λ e. NoRecordsOpened D.Disk e disk.old disk.new) }
     {
-        let mut wal = match Wal::open(disk, alloc) {
+        let mut records = match Records::open_to_read(alloc, disk) {
+            Ok(records) => records,
+            Err(error) => return Err(error),
+        };
+        let Ok(_) = records.renew(disk) else {
+            return Err(StoreError::Disk);
+        };
+        Ok(records)
+    }
+
+    /// Gives the gate of the log's last group to the disk once more, else the log's first byte, where there is
+    /// one. It takes no read, and no memory.
+    ///
+    /// Errors: `Disk`, only where `faults` rose; `Ended` exactly where the records had ended.
+    pub fn renew<D: Disk>(&mut self, disk: &mut D) -> Result<(), StoreError>
+        ensures still { IsStill D.Disk disk.old disk.new }
+        ensures reads { D.reads disk.new ≡ D.reads disk.old }
+        ensures ok { OnOk result ((self.new ≡ self.old) × (has_ended self.old ≡ false)) }
+        ensures renewed { OnOk result ((was : Image) (at : ℕ) → IsInStepWith D.Disk self.old disk.old was → last_gate was.log ≡ Some at → IsRenewedLast Log at (D.renewed disk.new)) }
+        ensures refused { IfErr result (λ e. NotWritten D.Disk e self.old self.new disk.old disk.new) }
+    {
+        if self.ended {
+            return Err(StoreError::Ended);
+        }
+        let Ok(_) = self.wal.renew(disk) else {
+            self.ended = true;
+            return Err(StoreError::Disk);
+        };
+        Ok(())
+    }
+
+    /// The records of a disk that has a store, for a session that only reads. It reads the log by its heads and
+    /// page numbers, and one page. Nothing is written. Where the pages area has no page, a group of the log has to have each
+    /// page below the header's number: a pages area that went isn't taken for one that was never written.
+    ///
+    /// Errors: `NotAStore` exactly where page 0 is missing or doesn't begin with the eight bytes
+    /// `NATIXST1`; `Damaged`, only where the pages aren't sound: with page 0 where that is no header, else
+    /// with the first page below the header's number that no group of the log has, where the pages area has
+    /// none; `Disk`, only where `faults` rose; `Memory`.
+    pub fn open_to_read<D: Disk>(alloc: Global, disk: &mut D) -> Result<Records, StoreError>
+        ensures still { IsStill D.Disk disk.old disk.new }
+        ensures ok { IfOk result (λ records. (was : Image) (held : Held) → IsSettled D.Disk disk.old was → Holds (replay was) held → StandsFor D.Disk records disk.new held held) }
+        ensures step { IfOk result (λ records. (was : Image) → IsSettled D.Disk disk.old was → IsInStepWith D.Disk records disk.new was × HasHeader was) }
+        ensures header { IfOk result (λ records. (was : Image) → IsSettled D.Disk disk.old was → replay was 0 ≡ Some (header_bytes records.saved)) }
+        ensures whole { IfOk result (λ records. (was : Image) → IsSettled D.Disk disk.old was → HasLostNone was) }
+        ensures fresh { IfOk result (λ records. (has_ended records ≡ false) × HasNoChanges records) }
+        ensures reads { IfSome (D.contents disk.old) (λ was. D.reads disk.new ≤ D.reads disk.old + (3 * (length was.log / entry_size + 1) + 2)) }
+        ensures refused { IfErr result (λ e. NoRecordsOpened D.Disk e disk.old disk.new) }
+    {
+        let mut wal = match Wal::open_to_read(disk, alloc) {
             Ok(wal) => wal,
             Err(WalError::NotAStore) => return Err(StoreError::NotAStore),
             Err(WalError::Disk) => return Err(StoreError::Disk),
@@ -138,6 +189,12 @@ impl Records {
         let Some(header) = read_header(&page) else {
             return Err(StoreError::Damaged { page: 0 });
         };
+        let Ok(lost) = wal.first_lost(disk, header.pages) else {
+            return Err(StoreError::Disk);
+        };
+        if let Some(page) = lost {
+            return Err(StoreError::Damaged { page });
+        }
         Ok(Records {
             wal,
             saved: header,

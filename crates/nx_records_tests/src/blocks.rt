@@ -1,9 +1,7 @@
 // Lists that are read block by block, beside the whole.
-use crate::checks::{check_answer, check_bytes, check_count};
+use crate::checks::{check_bytes, check_count};
 use crate::stores::{LIMIT, Store};
-use crate::strangers::{Edit, changed};
 use nx_lists::List;
-use nx_memory::MemoryHost;
 use nx_records::{ListReader, StoreError};
 use std::alloc::{AllocError, Global};
 use std::process::Abort;
@@ -203,102 +201,4 @@ fn check_waiting_bytes(rt: &impl Abort, alloc: Global, bytes: &[u8]) -> Result<(
 fn a_list_that_waits(rt: HostRuntime) -> Result<(), Fail> {
     let bytes = some_bytes(rt.alloc(), 8_190)?;
     check_waiting_bytes(&rt, rt.alloc(), bytes.as_slice())
-}
-
-// Of six pages the last three are a list of 16,369 bytes.
-const LIST: [Edit; 4] = [
-    (24, &[0, 0, 0, 0]),
-    (24_576, b"\x02\x00\x1f\xf8\x00\x00\x00\x04first"),
-    (32_768, &[2, 0, 31, 248, 0, 0, 0, 5]),
-    (40_960, b"\x02\x00\x00\x01\x00\x00\x00\x00!"),
-];
-
-fn host_of(alloc: Global, edit: Edit) -> Result<MemoryHost, Fail> {
-    let [no_free, page_3, page_4, page_5] = LIST;
-    changed(alloc, &[no_free, page_3, page_4, page_5, edit])
-}
-
-// Reads the next block, and says whether there was one.
-fn has_block(store: &mut Store, reader: &mut ListReader) -> Result<bool, StoreError> {
-    let found = store.next_block(reader)?;
-    Ok(found.is_some())
-}
-
-fn check_has_block(rt: &impl Abort, has: bool, edit: Edit, len: u64) {
-    assert!(rt; has, "{edit:?} {len}");
-}
-
-fn next_answer(store: &mut Store, reader: &mut ListReader) -> Result<(), StoreError> {
-    has_block(store, reader)?;
-    Ok(())
-}
-
-fn check_damaged(rt: &impl Abort, found: Result<(), StoreError>, edit: Edit, len: u64) {
-    assert_eq!(rt;
-        found,
-        Err(StoreError::Damaged { page: 3 }),
-        "{edit:?} {len}"
-    );
-}
-
-// The next block is answered as damaged, which ends the records and leaves the reader.
-fn check_end(rt: &impl Abort, store: &mut Store, reader: &mut ListReader, edit: Edit, len: u64) {
-    let left = reader.left();
-    check_damaged(rt, next_answer(store, reader), edit, len);
-    check_count(rt, reader.left(), left);
-    check_answer(rt, next_answer(store, reader), Err(StoreError::Ended));
-}
-
-fn check_broken(
-    rt: &impl Abort,
-    store: &mut Store,
-    edit: Edit,
-    len: u64,
-    blocks: u32,
-) -> Result<(), StoreError> {
-    let mut reader = store.open_list(3, len)?;
-    for _ in 0..blocks {
-        let has = has_block(store, &mut reader)?;
-        check_has_block(rt, has, edit, len);
-    }
-    check_end(rt, store, &mut reader, edit, len);
-    Ok(())
-}
-
-// With the edit, so many blocks are answered, and then that the list's first page is damaged.
-fn check_stopped(
-    rt: &impl Abort,
-    alloc: Global,
-    edit: Edit,
-    len: u64,
-    blocks: u32,
-) -> Result<(), Fail> {
-    let host = host_of(alloc, edit)?;
-    let mut store = Store::open(alloc, host)?;
-    check_broken(rt, &mut store, edit, len, blocks)?;
-    Ok(())
-}
-
-#[test]
-fn lists_that_break_off(rt: HostRuntime) -> Result<(), Fail> {
-    let harms: [(Edit, u64, u32); 10] = [
-        // They end early, at each of their pages.
-        ((24_580, &[0, 0, 0, 0]), 16_369, 0),
-        ((32_772, &[0, 0, 0, 0]), 16_369, 1),
-        ((0, b""), 16_370, 2),
-        // They go on where they should end.
-        ((0, b""), 8_184, 0),
-        ((0, b""), 16_368, 1),
-        ((40_962, &[31, 248, 0, 0, 0, 1]), 16_369, 2),
-        // They run into themselves.
-        ((24_580, &[0, 0, 0, 3]), 16_368, 1),
-        ((32_772, &[0, 0, 0, 3]), 24_552, 2),
-        // A page is no chain page, or isn't full.
-        ((32_768, &[3]), 16_369, 1),
-        ((32_770, &[31, 247]), 16_369, 1),
-    ];
-    for (edit, len, blocks) in harms {
-        check_stopped(&rt, rt.alloc(), edit, len, blocks)?;
-    }
-    Ok(())
 }

@@ -1,5 +1,5 @@
 // Which pages a commit writes where a list or the catalog changes in part.
-use crate::checks::{check_answer, check_bytes, check_count};
+use crate::checks::{check_bytes, check_count};
 use crate::stores::Store;
 use nx_records::StoreError;
 use std::alloc::{AllocError, Global};
@@ -99,95 +99,7 @@ fn a_list_is_changed_in_place(rt: HostRuntime) -> Result<(), Fail> {
     check_lists_from(&rt, rt.alloc(), old.as_slice())
 }
 
-fn check_catalog(rt: &impl Abort, store: &mut Store, expected: &[u8]) -> Result<(), StoreError> {
-    let read = store.read_catalog()?;
-    check_bytes(rt, read.as_slice(), expected);
-    Ok(())
-}
-
-// The catalog becomes another one, and then the old one again.
-fn change_catalog(
-    rt: &impl Abort,
-    store: &mut Store,
-    old: &[u8],
-    new: &[u8],
-    pages: u64,
-) -> Result<(), StoreError> {
-    store.set_catalog(rt, new)?;
-    check_catalog(rt, store, new)?;
-    check_group(rt, store, pages)?;
-    store.set_catalog(rt, old)?;
-    check_group(rt, store, pages)
-}
-
-fn change_catalogs(rt: &impl Abort, store: &mut Store, old: &[u8]) -> Result<(), Fail> {
-    for (count, places, pages) in CHANGES {
-        let new = bytes_with(store.alloc(), count, places)?;
-        change_catalog(rt, store, old, new.as_slice(), pages)?;
-    }
-    Ok(())
-}
-
-fn check_catalogs(rt: &impl Abort, store: &mut Store, old: &[u8]) -> Result<(), Fail> {
-    store.set_catalog(rt, old)?;
-    check_group(rt, store, 3)?;
-    change_catalogs(rt, store, old)
-}
-
-fn check_catalogs_from(rt: &impl Abort, alloc: Global, old: &[u8]) -> Result<(), Fail> {
-    let mut store = Store::create(alloc)?;
-    check_catalogs(rt, &mut store, old)
-}
-
-#[test]
-fn a_catalog_is_changed_in_place(rt: HostRuntime) -> Result<(), Fail> {
-    let old = bytes_with(rt.alloc(), 24_500, &[])?;
-    check_catalogs_from(&rt, rt.alloc(), old.as_slice())
-}
-
 fn read_list(store: &mut Store, first: u32) -> Result<(), StoreError> {
     store.read_list(first, 24_500)?;
     Ok(())
-}
-
-// Of a list that was written the one that stands so many pages behind it isn't changed, of so many bytes.
-fn check_other(
-    rt: &impl Abort,
-    store: &mut Store,
-    first_past: u32,
-    len: u64,
-    new: &[u8],
-) -> Result<(), StoreError> {
-    let first = store.write_list(rt, new)?;
-    let page = first.saturating_add(first_past);
-    let changed = store.change_list(rt, page, len, new);
-    check_answer(rt, changed, Err(StoreError::Damaged { page }));
-    check_answer(rt, read_list(store, first), Err(StoreError::Ended));
-    Ok(())
-}
-
-fn check_no_list(
-    rt: &impl Abort,
-    alloc: Global,
-    first_past: u32,
-    len: u64,
-    new: &[u8],
-) -> Result<(), Fail> {
-    let mut store = Store::create(alloc)?;
-    check_other(rt, &mut store, first_past, len, new)?;
-    Ok(())
-}
-
-fn check_others(rt: &impl Abort, alloc: Global, new: &[u8]) -> Result<(), Fail> {
-    for (first_past, len) in [(1, 24_500), (0, 24_501), (0, 24_499), (60, 24_500)] {
-        check_no_list(rt, alloc, first_past, len, new)?;
-    }
-    Ok(())
-}
-
-// A list that isn't there, and one of another length.
-#[test]
-fn no_other_list_is_changed(rt: HostRuntime) -> Result<(), Fail> {
-    let new = bytes_with(rt.alloc(), 24_500, &[])?;
-    check_others(&rt, rt.alloc(), new.as_slice())
 }

@@ -5,11 +5,7 @@
 #[cfg(test)]
 mod blocks;
 #[cfg(test)]
-mod chains;
-#[cfg(test)]
 mod checks;
-#[cfg(test)]
-mod circles;
 #[cfg(test)]
 mod formats;
 #[cfg(test)]
@@ -22,12 +18,6 @@ mod pages;
 mod random;
 #[cfg(test)]
 mod rows;
-#[cfg(test)]
-mod runs;
-#[cfg(test)]
-mod sequences;
-#[cfg(test)]
-mod stops;
 #[cfg(test)]
 mod stores;
 #[cfg(test)]

@@ -1,16 +1,13 @@
 // What the pages of a store are used for, seen without records.
-use crate::maps::{Entry, Listed, Map};
-use crate::stores::{LIMIT, Store};
+use crate::stores::LIMIT;
 use nx_chain::read_chain_page;
 use nx_holdings::{Header, read_free_page};
-use nx_lists::List;
 use nx_memory::MemoryHost;
-use nx_records::{StoreError, read_header};
+use nx_records::read_header;
 use nx_slots::{Page, PageBytes};
 use nx_wal::{Wal, WalError};
 use std::alloc::Global;
 use std::process::Abort;
-use std::test::Fail;
 
 // More slots than a page of random records has.
 const SLOTS: u16 = 256;
@@ -208,51 +205,4 @@ fn check_free(rt: &impl Abort, counts: Counts) {
 /// So much was counted.
 pub fn check_counts(rt: &impl Abort, found: Counts, expected: Counts) {
     assert_eq!(rt; found, expected);
-}
-
-// Whether just these bytes were read, and not refused as damaged.
-fn is_just(read: Result<List<u8>, StoreError>, bytes: &[u8]) -> Result<bool, StoreError> {
-    match read {
-        Ok(found) => Ok(found.as_slice() == bytes),
-        Err(StoreError::Damaged { .. }) => Ok(false),
-        Err(error) => Err(error),
-    }
-}
-
-fn has_entries(store: &mut Store, noise: &[u8], entries: &[Entry]) -> Result<bool, StoreError> {
-    for entry in entries {
-        if !is_just(store.read(entry.place), entry.part.of(noise))? {
-            return Ok(false);
-        }
-    }
-    Ok(true)
-}
-
-fn has_lists(store: &mut Store, noise: &[u8], lists: &[Listed]) -> Result<bool, StoreError> {
-    for list in lists {
-        let read = store.read_list(list.first, u64::from(list.part.length));
-        if !is_just(read, list.part.of(noise))? {
-            return Ok(false);
-        }
-    }
-    Ok(true)
-}
-
-fn has_all(store: &mut Store, noise: &[u8], map: &Map) -> Result<bool, StoreError> {
-    if !has_entries(store, noise, &map.entries)? {
-        return Ok(false);
-    }
-    if !has_lists(store, noise, &map.lists)? {
-        return Ok(false);
-    }
-    is_just(store.read_catalog(), map.catalog.of(noise))
-}
-
-/// Whether an opened store has just the records, byte lists and catalog of a map.
-pub fn has_map(rt: &impl Abort, store: &mut Store, noise: &[u8], map: &Map) -> Result<bool, Fail> {
-    let counts = store.counts(rt)?;
-    if counts.records as usize != map.entries.len() || counts.chains != map.chain_pages() {
-        return Ok(false);
-    }
-    Ok(has_all(store, noise, map)?)
 }

@@ -103,21 +103,6 @@ impl Store {
         self.host.image(choice)
     }
 
-    /// A host of what a crash leaves.
-    pub fn host_left(&self, choice: Choice) -> Result<MemoryHost, NoMemory> {
-        host_of(self.alloc, self.image(choice)?)
-    }
-
-    /// The host's calls fail behind so many.
-    pub fn stop_after(&mut self, calls: u64) {
-        self.host.stop_after(calls);
-    }
-
-    /// How many calls of the host failed.
-    pub fn faults(&self) -> u64 {
-        self.host.counts().faults
-    }
-
     /// How many pages and parts of the log were read from the host.
     pub fn reads(&self) -> u64 {
         self.host.counts().reads
@@ -311,38 +296,6 @@ impl Store {
             .records
             .change_list(self.alloc, &mut self.host, first, len, bytes)
         {
-            Ok(_) => {
-                self.changed = true;
-                Ok(())
-            }
-            Err(error) => {
-                self.changed = false;
-                self.records.abandon();
-                Err(error)
-            }
-        }
-    }
-
-    pub fn read_catalog(&mut self) -> Result<List<u8>, StoreError> {
-        match self.records.read_catalog(self.alloc, &mut self.host) {
-            Ok(bytes) => Ok(bytes),
-            Err(error) => {
-                self.changed = false;
-                self.records.abandon();
-                Err(error)
-            }
-        }
-    }
-
-    pub fn set_catalog(&mut self, rt: &impl Abort, bytes: &[u8]) -> Result<(), StoreError> {
-        assert!(rt; 8 <= bytes.len());
-        self.set_bytes(bytes)
-    }
-
-    fn set_bytes(&mut self, bytes: &[u8]) -> Result<(), StoreError>
-        requires { 8 ≤ length bytes.now }
-    {
-        match self.records.set_catalog(self.alloc, &mut self.host, bytes) {
             Ok(_) => {
                 self.changed = true;
                 Ok(())

@@ -234,34 +234,6 @@ fn what_has_no_mark_is_no_store(rt: HostRuntime) -> Result<(), Fail> {
     Ok(())
 }
 
-#[test]
-fn headers_of_strangers(rt: HostRuntime) -> Result<(), Fail> {
-    let edits: [Edit; 15] = [
-        // Formats that there aren't, and settings that are out of range.
-        (8, &[0, 0]),
-        (8, &[0, 3]),
-        (8, &[1, 1]),
-        (10, &[0, 0]),
-        (10, &[1, 1]),
-        (12, &[0, 101]),
-        (14, &[1, 1]),
-        (16, &[0, 0, 0, 63]),
-        (16, &[1, 0, 0, 1]),
-        // More pages than the limit, and fewer than two.
-        (20, &[0, 0, 0, 65]),
-        (20, &[255, 255, 255, 255]),
-        (20, &[0, 0, 0, 1]),
-        // A catalog that is too short, and bytes behind the fields.
-        (44, &[0, 0, 0, 0, 0, 0, 0, 7]),
-        (52, &[1]),
-        (8_191, &[1]),
-    ];
-    for edit in edits {
-        check(&rt, rt.alloc(), edit, Ask::Open, 0)?;
-    }
-    Ok(())
-}
-
 // The first slotted page is damaged by the edit.
 fn check_slotted(rt: &impl Abort, alloc: Global, edit: Edit) -> Result<(), Fail> {
     for asked in [Ask::Read { page: 2, slot: 0 }, Ask::Update, Ask::Remove] {
@@ -295,54 +267,6 @@ fn slotted_pages_of_strangers(rt: HostRuntime) -> Result<(), Fail> {
     ];
     for edit in edits {
         check_slotted(&rt, rt.alloc(), edit)?;
-    }
-    Ok(())
-}
-
-#[test]
-fn places_of_strangers(rt: HostRuntime) -> Result<(), Fail> {
-    let places: [(Edit, u32, u16); 8] = [
-        // The header, the catalog and a free page.
-        ((0, b""), 0, 0),
-        ((0, b""), 1, 0),
-        ((0, b""), 4, 0),
-        // Slots that aren't there.
-        ((0, b""), 2, 2),
-        ((0, b""), 2, 65_535),
-        // Pages that aren't there, or are past those in use.
-        ((20, &[0, 0, 0, 7]), 6, 0),
-        ((20, &[0, 0, 0, 3]), 3, 0),
-        ((0, b""), 4_294_967_295, 0),
-    ];
-    for (edit, page, slot) in places {
-        check(&rt, rt.alloc(), edit, Ask::Read { page, slot }, page)?;
-    }
-    Ok(())
-}
-
-#[test]
-fn free_pages_of_strangers(rt: HostRuntime) -> Result<(), Fail> {
-    let edits: [Edit; 13] = [
-        // Lists that run into themselves.
-        (32_772, &[0, 0, 0, 4]),
-        (40_964, &[0, 0, 0, 4]),
-        (40_964, &[0, 0, 0, 5]),
-        // Lists that run into other pages, and past all pages.
-        (24, &[0, 0, 0, 1]),
-        (24, &[0, 0, 0, 2]),
-        (24, &[0, 0, 0, 6]),
-        (40_964, &[0, 0, 0, 3]),
-        (40_964, &[255, 255, 255, 255]),
-        // Free pages with other bytes.
-        (32_768, &[1]),
-        (40_959, &[1]),
-        // A page for new records that is a free one, the catalog, or past all pages.
-        (28, &[0, 0, 0, 4]),
-        (28, &[0, 0, 0, 1]),
-        (28, &[0, 0, 0, 6]),
-    ];
-    for edit in edits {
-        check(&rt, rt.alloc(), edit, Ask::Fill, 0)?;
     }
     Ok(())
 }

@@ -18,7 +18,7 @@ use Rattle.nx_wal.specs.Wal.{IsPageCount}
 use Rattle.nx_wal.specs.declared.reading.Head.{Head}
 use Rattle.nx_wal.proofs.ReadingLemmas.{group_there, no_rise, no_place}
 
-first_page : (es : List Entry) → 0 < length es → (p : ℕ) × IsSome (entry_pages es p)
+pub first_page : (es : List Entry) → 0 < length es → (p : ℕ) × IsSome (entry_pages es p)
 first_page [] some = absurd (omega (arith, some))
 first_page (e ∷ es) some = (
   e.page,

@@ -7,3 +7,6 @@ pub mod GatherLemmas
 pub mod ListLemmas
 pub mod WaitingLemmas
 pub mod CountLemmas
+mod RenewLemmas
+pub mod LostLemmas
+mod OwnLemmas

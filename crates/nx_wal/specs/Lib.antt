@@ -4,4 +4,7 @@ pub mod Writing
 pub mod Gathering
 pub mod Moving
 pub mod InPlace
+pub mod Lost
 pub mod Wal
+pub mod Renewing
+pub mod Own

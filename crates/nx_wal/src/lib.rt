@@ -5,10 +5,13 @@
 
 mod block;
 mod error;
+pub mod laws;
+mod lost;
 mod moving;
 mod pages;
 mod places;
 mod reading;
+mod renewing;
 mod waiting;
 mod wal;
 mod writing;

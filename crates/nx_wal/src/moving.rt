@@ -6,6 +6,7 @@ ghost use Rattle.nx_host.specs.Disk.{Image, Rose, ComesTorn, WritesTo};
 ghost use Rattle.nx_host.specs.declared.disk.Area.TheVariants.{Pages};
 ghost use Rattle.nx_host.specs.Still.{WritesAlone, IsSettled};
 ghost use Rattle.nx_replay.specs.Log.{replay, groups, end_of, IsLogEnd, Stays};
+ghost use Rattle.nx_wal.specs.Own.{BeginsWithGate, IsOwn};
 ghost use Rattle.nx_wal.specs.Moving.{WritesPage, Moves, IsLed, HasMoved};
 
 use crate::PageBytes;
@@ -79,6 +80,7 @@ pub(crate) fn empty_log<D: Disk>(
     places: &BTreeMap<u32, Option<u64>>,
 ) -> Result<(), Failed>
     ensures goes { WritesAlone D.Disk disk.old disk.new (λ i. (was : Image) → IsLed D.Disk places.now disk.old was → 0 < end_of (groups was.log) → Stays (replay was) (replay i)) }
+    ensures own { WritesAlone D.Disk disk.old disk.new (λ i. (was : Image) → IsLed D.Disk places.now disk.old was → 0 < end_of (groups was.log) → BeginsWithGate i.log → IsOwn i) }
     ensures ok { OnOk result ((was now : Image) → IsLed D.Disk places.now disk.old was → 0 < end_of (groups was.log) → D.contents disk.new ≡ Some now
         → IsSettled D.Disk disk.new now × Stays (replay was) (replay now) × IsLogEnd 0 true now.log) }
     ensures cause { OnErr result (Rose (D.faults disk.old) (D.faults disk.new)) }

@@ -331,7 +331,7 @@ fn are_bytes(_bytes: &[u8])
 {}
 
 // The limit below which a log's groups end.
-fn log_limit<D: Disk>(disk: &mut D) -> Result<u64, Failed>
+pub(crate) fn log_limit<D: Disk>(disk: &mut D) -> Result<u64, Failed>
     ensures still { IsStill D.Disk disk.old disk.new }
     ensures reads { D.reads disk.new ≡ D.reads disk.old }
     ensures low { IfOk result (λ limit. limit ≤ 2 ^ 63) }

@@ -5,7 +5,8 @@ ghost use Rattle.std.specs.BTreeMap.{keys, btree_map_len};
 ghost use Rattle.std.specs.Vec.{vec_capacity};
 ghost use Rattle.std.proofs.Props.{props};
 ghost use Rattle.nx_numbers.specs.Sizes.{entry_size, longest_record, most_pages};
-ghost use Rattle.nx_host.specs.Disk.{Image};
+ghost use Rattle.nx_host.specs.Disk.{Image, IsRenewedLast};
+ghost use Rattle.nx_host.specs.declared.disk.Area.TheVariants.{Log};
 ghost use Rattle.nx_host.specs.Still.{IsStill, IsSettled, WritesAlone};
 ghost use Rattle.nx_replay.specs.Log.{replay, over, groups, group_size, entry_pages, Stays, HasSame, HasGroup, HasMark};
 ghost use Rattle.nx_replay.specs.Log.{Group as LogGroup};
@@ -13,10 +14,12 @@ ghost use Rattle.nx_groups.specs.Groups.{logged_as};
 ghost use Rattle.nx_wal.specs.Places.{MayWait};
 
 use crate::block::Block;
+use crate::lost::first_unplaced;
 use crate::moving::empty_log;
 use crate::pages::{area_count, read_page};
 use crate::places::{logged_count, make_place, set_places};
 use crate::reading::{open_log, read_group, read_group_head, read_part, shut_of_none};
+use crate::renewing::renew_gate;
 use crate::waiting::Waiting;
 use crate::writing::write_group;
 use crate::{GroupHead, PageBytes, WalError};
@@ -51,6 +54,9 @@ pub struct Wal {
 impl Wal {
     ghost use Rattle.nx_wal.specs.Wal.{Follows, IsInStep, IsPageCount, EndsWal, group_count, NoGroupRead, pending, current, next_group, wal_ended, length_of, PutsRecord, HasNoPageFor, ClearsRecord, HasNoneBeside, Refused, NoLogCreated, NoLogOpened};
     ghost use Rattle.nx_wal.specs.Reading.{page_found, IsHeadFor, ArePagesOf};
+    ghost use Rattle.nx_wal.specs.Own.{BeginsWithGate, IsOwn};
+    ghost use Rattle.nx_wal.specs.Renewing.{IsRenewed, last_gate};
+    ghost use Rattle.nx_wal.specs.Lost.{Loses};
 
     /// A log over a disk that has no pages. Nothing is written.
     ///
@@ -83,11 +89,35 @@ impl Wal {
         })
     }
 
-    /// The log of a disk that has a store. Nothing is written.
+    /// As `open_to_read`, for a session that may commit: what it found it also gives to the disk once more,
+    /// so that nothing is built on a byte that a failed sync lost while a read still gives it. That is the
+    /// gate of the log's last group, else the log's first byte, where there is one. Contents and images stay.
     ///
     /// Errors: `NotAStore` exactly where page 0 is missing or doesn't begin with the eight bytes
     /// `NATIXST1`; `Disk`, only where `faults` rose; `Memory`.
     pub fn open<D: Disk>(disk: &mut D, alloc: Global) -> Result<Wal, WalError>
+        ensures still { IsStill D.Disk disk.old disk.new }
+        ensures ok { IfOk result (λ wal. (was : Image) → IsSettled D.Disk disk.old was → IsInStep D.Disk wal disk.new was × HasMark (replay was)) }
+        ensures fresh { IfOk result (λ wal. (wal_ended wal ≡ false) × (pending wal ≡ [])) }
+        ensures reads { IfSome (D.contents disk.old) (λ was. D.reads disk.new ≤ D.reads disk.old + (3 * (length was.log / entry_size + 1) + 1)) }
+        ensures renewed { OnOk result (IsRenewed D.Disk disk.old disk.new) }
+        ensures refused { IfErr result (λ e. NoLogOpened D.Disk e disk.old disk.new) }
+    {
+        let mut wal = match Wal::open_to_read(disk, alloc) {
+            Ok(wal) => wal,
+            Err(error) => return Err(error),
+        };
+        let Ok(_) = wal.renew(disk) else {
+            return Err(WalError::Disk);
+        };
+        Ok(wal)
+    }
+
+    /// The log of a disk that has a store, for a session that only reads. Nothing is written.
+    ///
+    /// Errors: `NotAStore` exactly where page 0 is missing or doesn't begin with the eight bytes
+    /// `NATIXST1`; `Disk`, only where `faults` rose; `Memory`.
+    pub fn open_to_read<D: Disk>(disk: &mut D, alloc: Global) -> Result<Wal, WalError>
         ensures still { IsStill D.Disk disk.old disk.new }
         ensures ok { IfOk result (λ wal. (was : Image) → IsSettled D.Disk disk.old was → IsInStep D.Disk wal disk.new was × HasMark (replay was)) }
         ensures fresh { IfOk result (λ wal. (wal_ended wal ≡ false) × (pending wal ≡ [])) }
@@ -110,6 +140,28 @@ impl Wal {
             shut: opened.end.shut,
             ended: false,
         })
+    }
+
+    /// Gives the gate of the log's last group to the disk once more, else the log's first byte, where there
+    /// is one. Contents and images stay. It takes no read, and no memory.
+    ///
+    /// Errors: `Disk`, only where `faults` rose; `Ended` exactly where an earlier call answered
+    /// `Disk`.
+    pub fn renew<D: Disk>(&mut self, disk: &mut D) -> Result<(), WalError>
+        ensures still { IsStill D.Disk disk.old disk.new }
+        ensures reads { D.reads disk.new ≡ D.reads disk.old }
+        ensures ok { OnOk result ((self.new ≡ self.old) × (wal_ended self.old ≡ false)) }
+        ensures renewed { OnOk result ((was : Image) (at : ℕ) → IsInStep D.Disk self.old disk.old was → last_gate was.log ≡ Some at → IsRenewedLast Log at (D.renewed disk.new)) }
+        ensures refused { IfErr result (λ e. Refused D.Disk e self.old self.new disk.old disk.new) }
+    {
+        if self.ended {
+            return Err(WalError::Ended);
+        }
+        let Ok(_) = renew_gate(disk, &self.starts) else {
+            self.ended = true;
+            return Err(WalError::Disk);
+        };
+        Ok(())
     }
 
     /// A page as the pending puts, else the log, else the pages area have it; `false` exactly where
@@ -261,7 +313,7 @@ impl Wal {
 
     /// Writes the pages that wait as a group with this number at the log's end. At every moment the
     /// disk stands for the pages before or for those after, and after Ok for those after, with one
-    /// group more in its log. It takes no memory.
+    /// group more in its log. Both files stay such as this program leaves them. It takes no memory.
     ///
     /// Errors: `Disk`, only where `faults` rose; `Ended` exactly where an earlier call answered
     /// `Disk`.
@@ -269,6 +321,7 @@ impl Wal {
         requires some { pending self.old ≢ [] }
         requires room { length_of self.old ≤ 2 ^ 62 }
         ensures goes { WritesAlone D.Disk disk.old disk.new (λ i. (was : Image) → IsInStep D.Disk self.old disk.old was → HasSame was i ⊎ HasGroup (next_group number self.old) was i) }
+        ensures own { WritesAlone D.Disk disk.old disk.new (λ i. (was : Image) → IsInStep D.Disk self.old disk.old was → IsOwn was → BeginsWithGate i.log → IsOwn i) }
         ensures ok { OnOk result ((was now : Image) → IsInStep D.Disk self.old disk.old was → D.contents disk.new ≡ Some now →
             IsInStep D.Disk self.new disk.new now × HasGroup (next_group number self.old) was now) }
         ensures none_left { OnOk result ((pending self.new ≡ []) × (wal_ended self.old ≡ false) × (wal_ended self.new ≡ false)) }
@@ -312,14 +365,15 @@ impl Wal {
 
     /// Writes the pages of the log to the pages area, in the order of their numbers, and empties the
     /// log. At every moment each page that the disk stands for stays, and none is added where none
-    /// is missing below the greatest. A log without groups is left alone, and the disk with it. It
-    /// takes no memory.
+    /// is missing below the greatest. A log without groups is left alone, and the disk with it. Both
+    /// files stay such as this program leaves them. It takes no memory.
     ///
     /// Errors: `Disk`, only where `faults` rose; `Ended` exactly where an earlier call answered
     /// `Disk`.
     pub fn checkpoint<D: Disk>(&mut self, disk: &mut D) -> Result<(), WalError>
         requires none { pending self.old ≡ [] }
         ensures goes { WritesAlone D.Disk disk.old disk.new (λ i. (was : Image) → IsInStep D.Disk self.old disk.old was → Stays (replay was) (replay i)) }
+        ensures own { WritesAlone D.Disk disk.old disk.new (λ i. (was : Image) → IsInStep D.Disk self.old disk.old was → IsOwn was → BeginsWithGate i.log → IsOwn i) }
         ensures ok { OnOk result ((was now : Image) → IsInStep D.Disk self.old disk.old was → D.contents disk.new ≡ Some now →
             IsInStep D.Disk self.new disk.new now × Stays (replay was) (replay now) × (groups now.log ≡ [])) }
         ensures empty { OnOk result ((length_of self.new ≡ 0) × (pending self.new ≡ []) × (wal_ended self.old ≡ false) × (wal_ended self.new ≡ false)) }
@@ -458,5 +512,31 @@ impl Wal {
             return Err(WalError::Disk);
         };
         Ok(count.max(logged_count(&self.places)))
+    }
+
+    /// The first page below this number that no group of the log has, where the pages area has no page; none
+    /// where that has one, or the log has each. It takes no read, and no memory, and looks at no page of the
+    /// log where the pages area has one.
+    ///
+    /// Errors: `Disk`, only where `faults` rose; `Ended` exactly where an earlier call answered
+    /// `Disk`.
+    pub fn first_lost<D: Disk>(&mut self, disk: &mut D, below: u32) -> Result<Option<u32>, WalError>
+        ensures still { IsStill D.Disk disk.old disk.new }
+        ensures reads { D.reads disk.new ≡ D.reads disk.old }
+        ensures ok { IfOk result (λ lost. (self.new ≡ self.old) × (wal_ended self.old ≡ false)
+            × ((was : Image) → IsInStep D.Disk self.old disk.old was → Loses lost below was)) }
+        ensures refused { IfErr result (λ e. Refused D.Disk e self.old self.new disk.old disk.new) }
+    {
+        if self.ended {
+            return Err(WalError::Ended);
+        }
+        let Ok(count) = area_count(disk) else {
+            self.ended = true;
+            return Err(WalError::Disk);
+        };
+        if count > 0 {
+            return Ok(None);
+        }
+        Ok(first_unplaced(&self.places, below))
     }
 }

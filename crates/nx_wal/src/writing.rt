@@ -8,6 +8,7 @@ ghost use Rattle.nx_replay.specs.Log.{Group, group_size, entry_bytes, HasGroup, 
 ghost use Rattle.nx_replay.specs.Commit.{IsOpened, IsBody, IsGroupLaid};
 ghost use Rattle.byteorder.specs.Endian.{big_bytes};
 ghost use Rattle.nx_numbers.specs.Sizes.{page_size, entry_size};
+ghost use Rattle.nx_wal.specs.Own.{IsAsLong};
 ghost use Rattle.nx_wal.specs.Gathering.{AddsBytes, WritesNoFurther};
 ghost use Rattle.nx_wal.specs.Writing.{Lays, Writes, StandsBehind, body_of, head_of, entries_of};
 
@@ -230,6 +231,7 @@ pub(crate) fn write_gate<D: Disk>(disk: &mut D, at: u64, gate: u8) -> Result<(),
 fn shut_end<D: Disk>(disk: &mut D, end: u64, shut: bool) -> Result<(), Failed>
     requires { end + 1 ≤ 2 ^ 63 }
     ensures goes { WritesAlone D.Disk disk.old disk.new (λ i. (was : Image) → IsOpened D.Disk end shut disk.old was → HasSame was i) }
+    ensures longer { WritesAlone D.Disk disk.old disk.new (IsAsLong D.Disk disk.old) }
     ensures ok { OnOk result ((was now : Image) → IsOpened D.Disk end shut disk.old was → D.contents disk.new ≡ Some now → HasSame was now × IsOpened D.Disk end true disk.new now) }
     ensures prefix { OnOk result ((was now : Image) → IsOpened D.Disk end shut disk.old was → D.contents disk.new ≡ Some now → take end now.log ≡ take end was.log) }
     ensures reads { D.reads disk.new ≡ D.reads disk.old }
@@ -252,6 +254,7 @@ fn lay_waiting<D: Disk>(
     requires low { end + 14 + entry_size * btree_map_len waiting.now ≤ 2 ^ 63 }
     requires few { btree_map_len waiting.now < 2 ^ 32 }
     ensures goes { WritesAlone D.Disk disk.old disk.new (λ i. (was : Image) → IsOpened D.Disk end true disk.old was → HasSame was i) }
+    ensures longer { WritesAlone D.Disk disk.old disk.new (IsAsLong D.Disk disk.old) }
     ensures ok { OnOk result ((was now : Image) (g : Group) → IsOpened D.Disk end true disk.old was → IsBody g end (body_of number waiting.now.entries) → D.contents disk.new ≡ Some now
         → HasSame was now × IsGroupLaid D.Disk g end disk.new now) }
     ensures prefix { OnOk result ((was now : Image) → IsOpened D.Disk end true disk.old was → D.contents disk.new ≡ Some now → StandsBehind end (body_of number waiting.now.entries) was now) }
@@ -266,6 +269,7 @@ fn lay_waiting<D: Disk>(
 fn open_gate<D: Disk>(disk: &mut D, end: u64) -> Result<(), Failed>
     requires { end + 1 ≤ 2 ^ 63 }
     ensures goes { WritesAlone D.Disk disk.old disk.new (λ i. (was : Image) (g : Group) → IsGroupLaid D.Disk g end disk.old was → HasSame was i ⊎ HasGroup g was i) }
+    ensures longer { WritesAlone D.Disk disk.old disk.new (IsAsLong D.Disk disk.old) }
     ensures ok { OnOk result ((was now : Image) (g : Group) → IsGroupLaid D.Disk g end disk.old was → D.contents disk.new ≡ Some now
         → HasGroup g was now × IsOpened D.Disk (end + group_size (length g.entries)) true disk.new now) }
     ensures prefix { OnOk result ((was now : Image) (g : Group) → IsGroupLaid D.Disk g end disk.old was → D.contents disk.new ≡ Some now
@@ -288,6 +292,7 @@ pub(crate) fn write_group<D: Disk>(
     requires low { end + 14 + entry_size * btree_map_len waiting.now ≤ 2 ^ 63 }
     requires few { btree_map_len waiting.now < 2 ^ 32 }
     ensures goes { WritesAlone D.Disk disk.old disk.new (λ i. (was : Image) (g : Group) → IsOpened D.Disk end shut disk.old was → IsBody g end (body_of number waiting.now.entries) → HasSame was i ⊎ HasGroup g was i) }
+    ensures longer { WritesAlone D.Disk disk.old disk.new (λ i. (was : Image) (g : Group) → IsOpened D.Disk end shut disk.old was → IsBody g end (body_of number waiting.now.entries) → length was.log ≤ length i.log) }
     ensures ok { OnOk result ((was now : Image) (g : Group) → IsOpened D.Disk end shut disk.old was → IsBody g end (body_of number waiting.now.entries) → D.contents disk.new ≡ Some now
         → HasGroup g was now × IsOpened D.Disk (end + group_size (length g.entries)) true disk.new now) }
     ensures prefix { OnOk result ((was now : Image) (g : Group) → IsOpened D.Disk end shut disk.old was → IsBody g end (body_of number waiting.now.entries) → D.contents disk.new ≡ Some now

@@ -19,7 +19,7 @@ ghost use Rattle.nx_wal_driver.specs.declared.faults.Fault.TheVariants.{Memory};
 use commands::{Command, command_of};
 use driving::{create, dump, fill, open};
 use faults::Fault;
-use nx_files::FileHost;
+use nx_files::{FileHost, Streams};
 use nx_host::{Disk, Host};
 use nx_lists::List;
 use std::alloc::Global;
@@ -48,7 +48,14 @@ where
     let Some(command) = command_of(rest) else {
         return Err(Fault::Usage);
     };
-    let mut host = FileHost::new(alloc, process, store.as_str(), reader, writer)?;
+    let mut host = FileHost::new(
+        alloc,
+        process,
+        store.as_str(),
+        reader,
+        writer,
+        Streams::NO_FILES,
+    )?;
     run(alloc, &mut host, command)
 }
 

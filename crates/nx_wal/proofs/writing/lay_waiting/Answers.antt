@@ -4,6 +4,7 @@ use Rattle.nx_replay.proofs.SettledLemmas.{on_ok}
 use Rattle.nx_replay.proofs.CommitMoments.{laid_goes, laid_done}
 use Rattle.nx_wal.specs.Writing.{body_of}
 use Rattle.nx_wal.proofs.WritingLemmas.{synced, stands_behind}
+use Rattle.nx_wal.proofs.OwnLemmas.{torn_long}
 use Rattle.nx_wal.proofs.writing.lay_waiting.Goals as goal
 
 pub returns-in_err-write_body-clause-goes : goal.returns-in_err-write_body-clause-goes
@@ -30,3 +31,9 @@ returns-clause-prefix g c = on_ok c.sync_log.result c.sync_log.ensures.durable (
     let here : c.args.end < length was.log = shut.0 in
     let done = synced c.write_body.ensures.writes c.in_ok-write_body.ensures.lays c.sync_log.ensures.images durable opened.settled (omega (arith, here)) told in
     stands_behind c.args.end body was now here done.0)
+
+pub returns-in_err-write_body-clause-longer : goal.returns-in_err-write_body-clause-longer
+returns-in_err-write_body-clause-longer g c = torn_long (c.write_body.ensures.writes).goes
+
+pub returns-clause-longer : goal.returns-clause-longer
+returns-clause-longer g c = torn_long (written_alone_then (c.write_body.ensures.writes).goes c.sync_log.ensures.goes (λ told i left. (c.write_body.ensures.writes).images i left))

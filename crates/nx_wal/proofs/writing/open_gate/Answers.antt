@@ -3,6 +3,7 @@ use Rattle.nx_wal.proofs.WritingLemmas.{end_fits, prefix_written, behind_written
 use Rattle.std.proofs.Common.{[], ◌∷◌}
 use Rattle.std.proofs.Common.{true}
 use Rattle.nx_replay.proofs.CommitMoments.{opened_goes, opened_done}
+use Rattle.nx_wal.proofs.OwnLemmas.{torn_long}
 use Rattle.nx_wal.proofs.writing.open_gate.Goals as goal
 
 pub returns-clause-goes : goal.returns-clause-goes
@@ -18,3 +19,6 @@ returns-clause-prefix g c = on_ok c.write_gate.result c.write_gate.ensures.writt
     let fits = end_fits c.args.end true was.log ((laid.opened).at) in
     let done = written was ((laid.opened).settled) fits now told in
     (prefix_written c.args.end (1 ∷ []) was now fits done.0, behind_written c.args.end 1 was now done.0))
+
+pub returns-clause-longer : goal.returns-clause-longer
+returns-clause-longer g c = torn_long c.write_gate.ensures.goes

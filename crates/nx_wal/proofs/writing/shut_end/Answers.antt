@@ -3,6 +3,7 @@ use Rattle.nx_wal.proofs.WritingLemmas.{end_fits, prefix_written, told_once}
 use Rattle.std.proofs.Common.{[], ◌∷◌, ap, sym, take}
 use Rattle.nx_host.specs.Disk.{Image}
 use Rattle.nx_replay.proofs.CommitMoments.{shut_goes, shut_done}
+use Rattle.nx_wal.proofs.OwnLemmas.{torn_long}
 use Rattle.nx_wal.proofs.writing.shut_end.Goals as goal
 
 pub returns-clause-goes : goal.returns-clause-goes
@@ -21,3 +22,6 @@ returns-clause-prefix g c = on_ok c.write_gate.result c.write_gate.ensures.writt
     let fits = end_fits c.args.end c.args.shut was.log opened.at in
     let done = written was opened.settled fits now told in
     prefix_written c.args.end (0 ∷ []) was now fits done.0)
+
+pub returns-clause-longer : goal.returns-clause-longer
+returns-clause-longer g c = torn_long c.write_gate.ensures.goes

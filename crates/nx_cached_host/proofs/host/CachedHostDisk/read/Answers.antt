@@ -1,7 +1,7 @@
 use Rattle.std.proofs.Common.{◌≡◌, Some, ap, sym, subst, ◌∙◌, arith}
-use Rattle.nx_host.specs.Disk.{Image}
+use Rattle.nx_host.specs.Disk.{Image, Keeps}
 use Rattle.nx_host.specs.Still.{IsStill}
-use Rattle.nx_host.proofs.DiskLemmas.{none_still}
+use Rattle.nx_host.proofs.DiskLemmas.{none_still, keeps_self}
 use Rattle.nx_cached_host.proofs.KeptLemmas.{if_told, page_read, whole_read}
 use Rattle.nx_cached_host.proofs.host.CachedHostDisk.read.Goals as goal
 
@@ -24,6 +24,7 @@ returns-then-copy_kept g c =
       beside = still.beside_stays;
       time = record { later = still.time.later; nothing_else = still.time.nothing_else; keeps = still.time.keeps };
       reads = (omega (arith, reads), omega (arith, reads));
+      renewed = subst (λ (h : _). Keeps (d.renewed old) (d.renewed h)) (sym same) (keeps_self (d.renewed old));
       faults = still.faults_later;
       cause = tt;
     }

@@ -95,3 +95,6 @@ pub returns-in_default-clause-refused : goal.returns-in_default-clause-refused
 returns-in_default-clause-refused g c =
     let keeps = keeps_self c.args.self.now c.args.self.now c.if-self.false refl in
     (runs_on c.if-self.false keeps, saved_kept keeps none_still)
+
+pub returns-in_err-place-clause-still : goal.returns-in_err-place-clause-still
+returns-in_err-place-clause-still g c = still_then c.load_slotted.ensures.still c.replace.ensures.still

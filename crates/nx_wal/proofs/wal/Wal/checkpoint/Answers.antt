@@ -1,5 +1,6 @@
 use Rattle.std.proofs.Common.{◌<◌, arith, refl, sym}
 use Rattle.nx_wal.proofs.WalLemmas.{checkpoint_goes, checkpoint_none, led, some_group, follows_none, ended_none}
+use Rattle.nx_wal.proofs.OwnLemmas.{checkpoint_own}
 use Rattle.nx_wal.proofs.wal.Wal.checkpoint.Goals as goal
 
 pub returns-then-self-eq0-clause-ok : goal.returns-then-self-eq0-clause-ok
@@ -19,3 +20,9 @@ returns-clause-ok g c was now step told =
       done.1,
       ended_none _ (sym (done.2).here),
     )
+
+pub returns-in_default-clause-own : goal.returns-in_default-clause-own
+returns-in_default-clause-own g c = checkpoint_own c.args.self.now c.args.disk.now c.empty_log.new.disk (omega (arith, c.if-self-eq0.false)) c.empty_log.ensures.own
+
+pub returns-clause-own : goal.returns-clause-own
+returns-clause-own g c = checkpoint_own c.args.self.now c.args.disk.now c.empty_log.new.disk (omega (arith, c.if-self-eq0.false)) c.empty_log.ensures.own

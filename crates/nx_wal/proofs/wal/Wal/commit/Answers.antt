@@ -8,6 +8,7 @@ use Rattle.nx_wal.proofs.ReadingLemmas.{starts_more}
 use Rattle.nx_wal.specs.Wal.{next_group}
 use Rattle.nx_wal.proofs.WaitingLemmas.{entries_stand}
 use Rattle.nx_wal.proofs.WalLemmas.{few_wait, next_body, opened_step, commit_goes, leads_more}
+use Rattle.nx_wal.proofs.OwnLemmas.{commit_own}
 use Rattle.nx_wal.proofs.wal.Wal.commit.Goals as goal
 
 pub write_group-requires-clause-low : goal.write_group-requires-clause-low
@@ -70,3 +71,13 @@ returns-clause-length g c =
     let mapped : length (entries_of es) ≡ length es = simp length-map in
     let count : c.len-count.result ≡ length es = c.len-count.ensures.len in
     omega (arith, mapped, count)
+
+pub returns-in_default-clause-own : goal.returns-in_default-clause-own
+returns-in_default-clause-own g c =
+    commit_own g.D.Disk c.args.self.now c.args.number c.args.disk.now c.write_group.new.disk c.requires.room
+    (next_body c.args.self.now c.len-count.ensures.ordered c.args.number c.ranges.number.fits c.requires.room c.requires.some) c.write_group.ensures.goes c.write_group.ensures.longer
+
+pub returns-clause-own : goal.returns-clause-own
+returns-clause-own g c =
+    commit_own g.D.Disk c.args.self.now c.args.number c.args.disk.now c.write_group.new.disk c.requires.room
+    (next_body c.args.self.now c.len-count.ensures.ordered c.args.number c.ranges.number.fits c.requires.room c.requires.some) c.write_group.ensures.goes c.write_group.ensures.longer
