@@ -1,1 +1,5 @@
 pub mod Files
+pub mod Made
+pub mod Own
+pub mod Sight
+pub mod Writes

@@ -5,14 +5,20 @@
 //! its part is trusted.
 #![tactic(auto)]
 
+mod area_file;
 mod cursor;
 mod file;
 mod host;
+mod locked;
+mod opening;
+mod own;
 mod settled;
+mod sight;
 mod store;
 mod stream;
 mod system;
 
 pub use file::{Folder, StoreFile};
 pub use host::FileHost;
+pub use sight::{Identity, Sight, Stream, Streams};
 pub use system::{SystemFile, SystemFolder};

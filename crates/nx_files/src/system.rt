@@ -1,30 +1,54 @@
 // The files of the system. Each call here is one of the system, and what it does there is trusted.
-ghost use Rattle.std.specs.Prelude.{◌≤◌, length, true, None, IfOk};
+ghost use Rattle.std.specs.Prelude.{◌≡◌, ◌≤◌, ◌≤ℤ◌, pos, length, true, None, IfOk, IsTrue};
+ghost use Rattle.std.specs.Fd.{file_raw_fd};
 
 use crate::cursor::FileCursor;
 use crate::stream::{read_full, write_whole};
-use crate::{Folder, StoreFile};
+use crate::{Folder, Sight, StoreFile};
 use nx_host::Failed;
-use std::fs::{File, Files};
+use nx_lists::NoMemory;
+use std::alloc::Global;
+use std::fs::{self, File, Files};
 use std::io;
 use std::io::ErrorKind;
+use std::os::fd::AsRawFd;
 use std::path::Path;
 
-/// A file of the system.
+// The first descriptor that is none of the input's, the output's and the errors'.
+const FIRST_FREE: i32 = 3;
+
+/// A file of the system. What is written to the standard streams never comes to it, also where one was
+/// closed when the program began.
 #[derive(Drop)]
 pub struct SystemFile {
     file: File,
+    ghost is_no_standard_stream: { pos 3 ≤ℤ file_raw_fd file },
 }
 
 impl SystemFile {
-    /// A file that is open for reading and writing.
-    pub fn new(file: File) -> SystemFile {
-        SystemFile { file }
+    /// A file that is open for reading and writing. Where the system gave it the descriptor of a standard
+    /// stream, it gets another one, and that one is closed again.
+    pub fn new(file: File) -> io::Result<SystemFile> {
+        if file.as_raw_fd() >= FIRST_FREE {
+            return Ok(SystemFile { file });
+        }
+        let file = file.try_clone()?;
+        if file.as_raw_fd() >= FIRST_FREE {
+            Ok(SystemFile { file })
+        } else {
+            Err(io::Error::from(ErrorKind::Unsupported))
+        }
     }
 }
 
 impl StoreFile for SystemFile {
     ghost path = { λ _. None };
+
+    ghost identity = { λ _. None };
+
+    ghost holds = { λ _. None };
+
+    ghost last_write = { λ _. None };
 
     ghost is_locked = { λ _. true };
 
@@ -40,8 +64,11 @@ impl StoreFile for SystemFile {
         self.file.sync_data().map_err(|_| Failed)
     }
 
-    fn length(&mut self) -> Result<u64, Failed> {
-        length_of(&self.file).map_err(|_| Failed)
+    fn look(&mut self) -> Result<Sight, Failed> {
+        match self.file.metadata() {
+            Ok(metadata) => Ok(Sight::of(&metadata)),
+            Err(_) => Err(Failed),
+        }
     }
 
     fn read_at(&mut self, at: u64, into: &mut [u8]) -> Result<usize, Failed>
@@ -62,12 +89,17 @@ impl StoreFile for SystemFile {
 #[derive(Drop)]
 pub struct SystemFolder<F> {
     files: F,
+    // A name that it was asked for was a link, which the system followed to its end.
+    followed: bool,
 }
 
 impl<F> SystemFolder<F> {
     /// The folders that these calls reach.
     pub fn new(files: F) -> SystemFolder<F> {
-        SystemFolder { files }
+        SystemFolder {
+            files,
+            followed: false,
+        }
     }
 }
 
@@ -76,11 +108,36 @@ impl<F: Files<File = File>> Folder for SystemFolder<F> {
 
     ghost is_durable = { λ _. true };
 
-    fn open(&mut self, path: &str) -> Result<SystemFile, Failed> {
-        match open_or_make(&self.files, path) {
-            Ok(file) if is_regular(&file) => Ok(SystemFile::new(file)),
-            _ => Err(Failed),
+    ghost stands_for = { λ folder name path. ¬ IsTrue folder.followed → path ≡ name };
+
+    ghost made = { λ _. None };
+
+    ghost standing = { λ _ _. None };
+
+    fn resolve(&mut self, alloc: Global, name: &str) -> Result<Option<String>, NoMemory> {
+        match fs::symlink_metadata(&self.files, name) {
+            Ok(metadata) if metadata.is_symlink() => {
+                self.followed = true;
+                follow(&self.files, alloc, name)
+            }
+            _ => Ok(Some(String::from_str(alloc, name)?)),
         }
+    }
+
+    fn look(&mut self, path: &str) -> Result<Option<Sight>, Failed> {
+        match fs::symlink_metadata(&self.files, path) {
+            Ok(metadata) => Ok(Some(Sight::of(&metadata))),
+            Err(error) if error.kind() == ErrorKind::NotFound => Ok(None),
+            Err(_) => Err(Failed),
+        }
+    }
+
+    fn open(&mut self, path: &str) -> Result<SystemFile, Failed> {
+        open_old(&self.files, path).map_err(|_| Failed)
+    }
+
+    fn make(&mut self, path: &str) -> Result<SystemFile, Failed> {
+        open_new(&self.files, path).map_err(|_| Failed)
     }
 
     fn sync(&mut self, path: &str) -> Result<(), Failed> {
@@ -88,17 +145,26 @@ impl<F: Files<File = File>> Folder for SystemFolder<F> {
     }
 }
 
-// A new file is made at the path itself, and not where a link there leads to, so that it has its
-// name in the path's folder.
-fn open_or_make<F: Files<File = File>>(files: &F, path: &str) -> io::Result<File> {
-    match File::options().read(true).write(true).open(files, path) {
-        Err(error) if error.kind() == ErrorKind::NotFound => File::create_new(files, path),
-        opened => opened,
+// Where the link at the path leads to in the end.
+fn follow<F: Files<File = File>>(
+    files: &F,
+    alloc: Global,
+    path: &str,
+) -> Result<Option<String>, NoMemory> {
+    match files.canonicalize(alloc, path) {
+        Ok(real) => Ok(Some(String::from_str(alloc, real.as_str())?)),
+        Err(error) if error.kind() == ErrorKind::OutOfMemory => Err(NoMemory),
+        Err(_) => Ok(None),
     }
 }
 
-fn is_regular(file: &File) -> bool {
-    file.metadata().is_ok_and(|metadata| metadata.is_file())
+fn open_old<F: Files<File = File>>(files: &F, path: &str) -> io::Result<SystemFile> {
+    SystemFile::new(File::options().read(true).write(true).open(files, path)?)
+}
+
+// It fails where something stands at the path, also a link that leads to nothing.
+fn open_new<F: Files<File = File>>(files: &F, path: &str) -> io::Result<SystemFile> {
+    SystemFile::new(File::create_new(files, path)?)
 }
 
 fn sync_folder<F: Files<File = File>>(files: &F, path: &str) -> io::Result<()> {

@@ -1,9 +1,11 @@
 // A reader, a writer and a folder that fail where a test says.
-ghost use Rattle.std.specs.Prelude.{None, true};
+ghost use Rattle.std.specs.Prelude.{◌≡◌, None, true};
 
-use nx_files::{Folder, StoreFile};
+use nx_files::{Folder, Identity, Sight, StoreFile};
 use nx_host::{Area, Failed};
-use std::cell::RefCell;
+use nx_lists::NoMemory;
+use std::alloc::Global;
+use std::cell::{Cell, RefCell};
 use std::io;
 use std::io::{ErrorKind, Read, Write};
 
@@ -98,11 +100,13 @@ impl Write for FakeWriter {
 /// What a folder and the files in it were asked.
 #[derive(Clone, Copy, Debug, PartialEq, Eq)]
 pub enum Call {
+    LookAtName(Area),
     Open(Area),
+    Make(Area),
     Lock(Area),
+    Look(Area),
     Sync(Area),
     SyncFolder,
-    Length(Area),
     Read(Area),
     Write(Area),
 }
@@ -129,6 +133,25 @@ impl Calls {
             .is_ok_and(|made| made.as_slice() == calls)
     }
 
+    /// Whether this was one of the calls.
+    pub fn has(&self, call: Call) -> bool {
+        self.made
+            .try_borrow()
+            .is_ok_and(|made| made.contains(&call))
+    }
+
+    /// How many were made since the last that was forgotten.
+    fn count(&self) -> usize {
+        self.made.try_borrow().map_or(0, |made| made.len())
+    }
+
+    /// Forgets the calls so far.
+    pub fn forget(&self) {
+        if let Ok(mut made) = self.made.try_borrow_mut() {
+            made.clear();
+        }
+    }
+
     fn note(&self, call: Call) -> Result<(), Failed> {
         let mut made = self.made.try_borrow_mut().map_err(|_| Failed)?;
         made.push(call).map_err(|_| Failed)?;
@@ -139,10 +162,54 @@ impl Calls {
     }
 }
 
-/// A folder of empty files. What has a name in `.log` is a log.
+/// A folder of files. What has a name in `.log` is a log.
 #[derive(Drop)]
 pub struct FakeFolder<'a> {
     pub calls: &'a Calls,
+    /// The files that are there when it is asked first.
+    pub has_pages: bool,
+    pub has_log: bool,
+    /// Behind so many calls a look at a name gives the log, also where nothing was.
+    pub moved: &'a Cell<usize>,
+}
+
+fn area_of(path: &str) -> Area {
+    if path.ends_with(".log") {
+        Area::Log
+    } else {
+        Area::Pages
+    }
+}
+
+// Empty pages, and a log of one byte.
+fn sight_of(area: Area) -> Sight {
+    Sight {
+        identity: Identity {
+            device: 1,
+            inode: match area {
+                Area::Pages => 1,
+                Area::Log => 2,
+            },
+        },
+        is_file: true,
+        links: 1,
+        length: match area {
+            Area::Pages => 0,
+            Area::Log => 1,
+        },
+    }
+}
+
+impl<'a> FakeFolder<'a> {
+    fn file(&self, area: Area) -> FakeFile<'a> {
+        FakeFile {
+            area,
+            calls: self.calls,
+            is_locked: false,
+            is_settled: false,
+            is_durable: false,
+        }
+    }
 }
 
 impl<'a> Folder for FakeFolder<'a> {
@@ -150,20 +217,43 @@ impl<'a> Folder for FakeFolder<'a> {
 
     ghost is_durable = { λ _. true };
 
-    fn open(&mut self, path: &str) -> Result<FakeFile<'a>, Failed> {
-        let area = if path.ends_with(".log") {
-            Area::Log
-        } else {
-            Area::Pages
+    ghost stands_for = { λ _ name path. path ≡ name };
+
+    ghost made = { λ _. None };
+
+    ghost standing = { λ _ _. None };
+
+    fn resolve(&mut self, alloc: Global, name: &str) -> Result<Option<String>, NoMemory> {
+        Ok(Some(String::from_str(alloc, name)?))
+    }
+
+    fn look(&mut self, path: &str) -> Result<Option<Sight>, Failed> {
+        let area = area_of(path);
+        self.calls.note(Call::LookAtName(area))?;
+        let is_there = match area {
+            Area::Pages => self.has_pages,
+            Area::Log => self.has_log,
         };
+        if self.calls.count() > self.moved.get() {
+            return Ok(Some(sight_of(Area::Log)));
+        }
+        Ok(is_there.then_some(sight_of(area)))
+    }
+
+    fn open(&mut self, path: &str) -> Result<FakeFile<'a>, Failed> {
+        let area = area_of(path);
         self.calls.note(Call::Open(area))?;
-        Ok(FakeFile {
-            area,
-            calls: self.calls,
-            is_locked: false,
-            is_settled: false,
-            is_durable: false,
-        })
+        Ok(self.file(area))
+    }
+
+    fn make(&mut self, path: &str) -> Result<FakeFile<'a>, Failed> {
+        let area = area_of(path);
+        self.calls.note(Call::Make(area))?;
+        match area {
+            Area::Pages => self.has_pages = true,
+            Area::Log => self.has_log = true,
+        }
+        Ok(self.file(area))
     }
 
     fn sync(&mut self, _path: &str) -> Result<(), Failed> {
@@ -171,7 +261,7 @@ impl<'a> Folder for FakeFolder<'a> {
     }
 }
 
-/// An empty file that tells what was done to it.
+/// Empty pages, or a log of one byte, a 1, that tells what was done to it.
 #[derive(Drop)]
 pub struct FakeFile<'a> {
     area: Area,
@@ -183,6 +273,12 @@ pub struct FakeFile<'a> {
 
 impl StoreFile for FakeFile<'_> {
     ghost path = { λ _. None };
+
+    ghost identity = { λ _. None };
+
+    ghost holds = { λ _. None };
+
+    ghost last_write = { λ _. None };
 
     ghost is_locked = { λ file. file.is_locked };
 
@@ -196,6 +292,11 @@ impl StoreFile for FakeFile<'_> {
         Ok(())
     }
 
+    fn look(&mut self) -> Result<Sight, Failed> {
+        self.calls.note(Call::Look(self.area))?;
+        Ok(sight_of(self.area))
+    }
+
     fn sync(&mut self) -> Result<(), Failed> {
         self.calls.note(Call::Sync(self.area))?;
         self.is_settled = true;
@@ -203,14 +304,15 @@ impl StoreFile for FakeFile<'_> {
         Ok(())
     }
 
-    fn length(&mut self) -> Result<u64, Failed> {
-        self.calls.note(Call::Length(self.area))?;
-        Ok(0)
-    }
-
-    fn read_at(&mut self, _at: u64, _into: &mut [u8]) -> Result<usize, Failed> {
+    fn read_at(&mut self, at: u64, into: &mut [u8]) -> Result<usize, Failed> {
         self.calls.note(Call::Read(self.area))?;
-        Ok(0)
+        match into {
+            [first, ..] if at == 0 && self.area == Area::Log => {
+                *first = 1;
+                Ok(1)
+            }
+            _ => Ok(0),
+        }
     }
 
     fn write_at(&mut self, _at: u64, _bytes: &[u8]) -> Result<(), Failed> {

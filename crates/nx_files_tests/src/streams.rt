@@ -24,7 +24,7 @@ fn reader(trouble: Trouble) -> FakeReader {
 fn a_failed_read_takes_nothing(rt: HostRuntime) -> Result<(), Fail> {
     let reader = reader(Trouble::at(2, ErrorKind::Other));
     let writer = writer(&rt, Trouble::NONE);
-    let mut host = FileHost::new(rt.alloc(), &rt, "_", reader, writer)?;
+    let mut host = FileHost::without_store(rt.alloc(), &rt, reader, writer);
     let mut into = [b'.'; 8];
     assert_eq!(rt; host.read_in(&mut into), Ok(3));
     assert_eq!(rt; into.as_slice(), b"abc.....".as_slice());
@@ -42,7 +42,7 @@ fn a_signal_is_no_fault(rt: HostRuntime) -> Result<(), Fail> {
     let once = Trouble::at(1, ErrorKind::Interrupted);
     let mut writer = writer(&rt, once);
     {
-        let mut host = FileHost::new(rt.alloc(), &rt, "_", reader(once), &mut writer)?;
+        let mut host = FileHost::without_store(rt.alloc(), &rt, reader(once), &mut writer);
         assert_eq!(rt; host.read_in(&mut [b'.'; 8]), Ok(3));
         assert_eq!(rt; host.emit(b"abcdefgh"), Ok(()));
     }
@@ -59,7 +59,7 @@ fn signals_without_end_are_a_fault(rt: HostRuntime) -> Result<(), Fail> {
     };
     let (mut reader, mut writer) = (reader(always), writer(&rt, always));
     {
-        let mut host = FileHost::new(rt.alloc(), &rt, "_", &mut reader, &mut writer)?;
+        let mut host = FileHost::without_store(rt.alloc(), &rt, &mut reader, &mut writer);
         assert_eq!(rt; host.read_in(&mut [0; 8]), Err(Failed));
         assert_eq!(rt; host.emit(b"abcdefgh"), Err(Failed));
     }
@@ -72,7 +72,12 @@ fn a_failed_write_leaves_a_prefix(rt: HostRuntime) -> Result<(), Fail> {
     for kind in [ErrorKind::BrokenPipe, ErrorKind::WriteZero] {
         let mut writer = writer(&rt, Trouble::at(2, kind));
         {
-            let mut host = FileHost::new(rt.alloc(), &rt, "_", reader(Trouble::NONE), &mut writer)?;
+            let mut host = FileHost::without_store(
+                rt.alloc(),
+                &rt,
+                reader(Trouble::NONE),
+                &mut writer,
+            );
             assert_eq!(rt; host.emit(b"abcdefgh"), Err(Failed));
             assert_eq!(rt; host.emit(b"ij"), Ok(()));
         }
@@ -85,7 +90,7 @@ fn a_failed_write_leaves_a_prefix(rt: HostRuntime) -> Result<(), Fail> {
 fn short_writes_go_on(rt: HostRuntime) -> Result<(), Fail> {
     let mut writer = writer(&rt, Trouble::NONE);
     {
-        let mut host = FileHost::new(rt.alloc(), &rt, "_", reader(Trouble::NONE), &mut writer)?;
+        let mut host = FileHost::without_store(rt.alloc(), &rt, reader(Trouble::NONE), &mut writer);
         assert_eq!(rt; host.emit(b""), Ok(()));
         assert_eq!(rt; host.emit(b"abcdefgh"), Ok(()));
     }

@@ -1,7 +1,10 @@
 -- What the program tells of how a command ended.
-use Rattle.std.specs.Prelude.{◌≡◌, ℕ, List, ◌++◌, Option, None, Some, IfSome, codes, decimal}
+use Rattle.std.specs.Prelude.{◌≡◌, ℕ, Bool, if◌then◌else◌, List, ◌++◌, Option, None, Some, codes, decimal}
+use Rattle.std.specs.Option.{option_map}
+use Rattle.std.specs.Process.{exit_status}
 use Rattle.nx_filters.specs.declared.status.Status.{Status}
 use Rattle.nx_filters.specs.declared.status.Status.TheVariants.{Done, Usage, Refused, DiskFault, ReadFault, WriteFault, NoMemory, NotAStore, Damaged, TooMuch}
+use Rattle.nx_program.specs.declared.ending.Ending.{Ending}
 
 -- the exit status
 abbrev pub exit_number : Status → ℕ
@@ -33,11 +36,11 @@ error_line NotAStore = Some (codes "not a store")
 error_line (Damaged page) = Some (damaged_line page)
 error_line TooMuch = Some (codes "too much input")
 
--- the same, but for the one with a number
-abbrev pub fixed_line : Status → Option (List ℕ)
-fixed_line (Damaged page) = None
-fixed_line status = error_line status
+-- the same, where standard error may be written to, and none where it may not
+abbrev pub heard_line : Bool → Status → Option (List ℕ)
+heard_line heard status = if heard then error_line status else None
 
--- The program ends with this number, as for a status that is P, and the line of that status was said, if it has one without a number.
-abbrev pub EndsAs : ℕ → (List ℕ → Type 0) → (Status → Type 0) → Type 0
-EndsAs number says P = (status : Status) × P status × (number ≡ exit_number status) × IfSome (fixed_line status) says
+-- The program ends with the number of a status that is P, and with the line of that status, whole, or with none where it has none.
+abbrev pub EndsAs : Ending → Bool → (Status → Type 0) → Type 0
+EndsAs ending heard P =
+    (status : Status) × P status × (exit_status ending.code ≡ exit_number status) × (option_map (λ line. line.bytes) ending.line ≡ heard_line heard status)

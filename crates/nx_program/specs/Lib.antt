@@ -1,2 +1,4 @@
 pub mod Ending
 pub mod Command
+pub mod Help
+pub mod Process

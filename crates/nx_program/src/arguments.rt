@@ -2,7 +2,7 @@
 ghost use Rattle.std.specs.Prelude.{◌≡◌, ◌≢◌, drop, map, string_bytes, Err, IfOk, IfErr, IsOk};
 ghost use Rattle.std.specs.IoError.{error_kind};
 ghost use Rattle.std.specs.Vec.Iter.{into_iter_items};
-ghost use Rattle.nx_program.specs.Command.{store_name, most_kept, most_kept_for};
+ghost use Rattle.nx_program.specs.Command.{most_kept, most_kept_for, makes_log, makes_log_for};
 
 use nx_front::{Status, Word, Words};
 use nx_lists::NoMemory;
@@ -47,16 +47,6 @@ fn words_of(alloc: Global, mut arguments: Args) -> Result<Words, NoMemory>
     Ok(words)
 }
 
-// The word that names the store.
-pub fn store_of(words: &Words) -> &str
-    ensures { result.now ≡ store_name words.now }
-{
-    match words.as_slice() {
-        [store, ..] => store.as_str(),
-        [] => "_",
-    }
-}
-
 // How many pages that were read lately are kept for the command of these words.
 pub fn most_kept(words: &Words) -> u32
     ensures { result ≡ most_kept words.now }
@@ -75,4 +65,21 @@ fn most_kept_for(command: &str) -> u32
     } else {
         MOST_KEPT
     }
+}
+
+// Whether the command of these words may begin a store, and makes a log that is missing: `init`, and `apply`, of which the first
+// group may be a base.
+pub fn makes_log(words: &Words) -> bool
+    ensures { result ≡ makes_log words.now }
+{
+    match words.as_slice() {
+        [_, command, ..] => makes_log_for(command.as_str()),
+        _ => false,
+    }
+}
+
+fn makes_log_for(command: &str) -> bool
+    ensures { result ≡ makes_log_for command.now }
+{
+    command == "init" || command == "apply"
 }

@@ -1,51 +1,67 @@
-// What the program tells of how a command ended.
-ghost use Rattle.std.specs.Prelude.{◌≡◌, string_bytes, IfOk, IfSome};
-ghost use Rattle.std.specs.Fn.{FnOnceReturnsAt};
-ghost use Rattle.std.specs.Option.{option_copied};
+// How the program ends.
+ghost use Rattle.std.specs.Prelude.{◌≡◌, ◌≤◌, length, option_map};
 ghost use Rattle.std.specs.Process.{exit_status};
-ghost use Rattle.nx_program.specs.Ending.{exit_number, fixed_line, damaged_line};
+ghost use Rattle.nx_program.specs.Ending.{exit_number, error_line, heard_line, damaged_line};
 
+use arrayvec::ArrayString;
+use itoa::Buffer;
 use nx_front::Status;
-use std::alloc::{AllocError, Global};
 use std::process::ExitCode;
 
-// Says the line that there is to say of a status, and gives the code to exit with. A line with a number
-// is said where there is memory for it.
-pub fn end<S: FnOnce(&str)>(alloc: Global, status: Status, say: S) -> ExitCode
-    requires { S.IsAlwaysCallable say }
-    ensures status { exit_status result ≡ exit_number status }
-    ensures said { IfSome (fixed_line status) (λ line. FnOnceReturnsAt S.FnOnce say line tt) }
-{
-    if let Some(line) = message(status) {
-        say(line);
-    } else if let Status::Damaged { page } = status {
-        if let Ok(line) = damaged_line(alloc, page) {
-            say(line.as_str());
-        }
-    }
-    exit_code(status)
+/// A line on standard error, without its end. None takes memory, so that want of it can be told.
+pub type Line = ArrayString<64>;
+
+/// How the program ends: the code to exit with, and the line to say on standard error, if there is one.
+#[derive(Drop)]
+pub struct Ending {
+    pub code: ExitCode,
+    pub line: Option<Line>,
 }
 
-// It takes no memory, so that want of memory can be told.
-fn message(status: Status) -> Option<&'static str>
-    ensures { option_copied result ≡ fixed_line status }
+// How it ends for this status, where standard error may be written to, and where it may not.
+pub fn end(status: Status, heard: bool) -> Ending
+    ensures code { exit_status result.code ≡ exit_number status }
+    ensures line { option_map (λ line. line.bytes) result.line ≡ heard_line heard status }
+{
+    let line = if heard { line_of(status) } else { None };
+    Ending {
+        code: exit_code(status),
+        line,
+    }
+}
+
+fn line_of(status: Status) -> Option<Line>
+    ensures { option_map (λ line. line.bytes) result ≡ error_line status }
 {
     match status {
-        Status::Done | Status::Refused | Status::Damaged { .. } => None,
-        Status::Usage => Some("usage: natix STORE COMMAND [ARG]..."),
-        Status::DiskFault => Some("disk fault"),
-        Status::ReadFault => Some("read fault"),
-        Status::WriteFault => Some("write fault"),
-        Status::NoMemory => Some("out of memory"),
-        Status::NotAStore => Some("not a store"),
-        Status::TooMuch => Some("too much input"),
+        Status::Done | Status::Refused => None,
+        Status::Usage => Some(fixed_line("usage: natix STORE COMMAND [ARG]...")),
+        Status::DiskFault => Some(fixed_line("disk fault")),
+        Status::ReadFault => Some(fixed_line("read fault")),
+        Status::WriteFault => Some(fixed_line("write fault")),
+        Status::NoMemory => Some(fixed_line("out of memory")),
+        Status::NotAStore => Some(fixed_line("not a store")),
+        Status::Damaged { page } => Some(damaged_line(page)),
+        Status::TooMuch => Some(fixed_line("too much input")),
     }
 }
 
-fn damaged_line(alloc: Global, page: u32) -> Result<String, AllocError>
-    ensures { IfOk result (λ line. string_bytes line ≡ damaged_line page) }
+fn fixed_line(text: &str) -> Line
+    requires { length text.now ≤ 64 }
+    ensures { result.bytes ≡ text.now }
 {
-    format!(in alloc; "damaged page {page}")
+    let mut line = Line::new();
+    line.push_str(text);
+    line
+}
+
+fn damaged_line(page: u32) -> Line
+    ensures { result.bytes ≡ damaged_line page }
+{
+    let mut digits = Buffer::new();
+    let mut line = fixed_line("damaged page ");
+    line.push_str(digits.format(page));
+    line
 }
 
 fn exit_code(status: Status) -> ExitCode

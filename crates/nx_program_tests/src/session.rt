@@ -1,4 +1,5 @@
 // One run of the program after another, over the stores of a folder.
+use nx_files::Streams;
 use nx_program::run_process;
 use std::alloc::{AllocError, AllocGlobal};
 use std::fs::{File, Files};
@@ -79,10 +80,20 @@ impl<'a> Room<'a> {
         let reader = Text {
             rest: input.as_bytes(),
         };
-        let (mut output, mut line) = (Vec::new(alloc), String::new(alloc));
-        let code = run_process(rt, Ok(arguments.into_iter()), reader, &mut output, |said| {
-            let _ = line.push_str(said);
-        });
+        let mut output = Vec::new(alloc);
+        let ending = run_process(
+            rt,
+            Ok(arguments.into_iter()),
+            reader,
+            &mut output,
+            |_reader: &Text<'_>, _writer: &&mut Vec<u8>| Ok(Streams::NO_FILES),
+            true,
+        );
+        let line = match &ending.line {
+            Some(line) => String::from_str(alloc, line.as_str())?,
+            None => String::new(alloc),
+        };
+        let code = ending.code;
         let code = format!(in alloc; "{code:?}")?;
         Ok(Ended { code, output, line })
     }

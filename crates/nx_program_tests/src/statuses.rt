@@ -1,8 +1,10 @@
 // How runs over real files end, and what they leave there.
 use crate::session::Room;
-use nx_files::FileHost;
+use nx_files::{FileHost, Streams};
 use nx_host::{Area, Disk};
+use nx_program::may_hear_of;
 use std::fs;
+use std::fs::{File, Files};
 use std::test::Fail;
 
 // How a status is printed.
@@ -65,9 +67,19 @@ fn each_end_has_its_number(rt: HostRuntime) -> Result<(), Fail> {
     let usage = "usage: natix STORE COMMAND [ARG]...";
     assert!(rt; room.run(&rt, "s", &["init"], "")?.is(USAGE, "", usage));
     assert!(rt;
+        room.run(&rt, "s.log", &["init", "16"], "")?
+            .is(USAGE, "", usage)
+    );
+    assert!(rt; !fs::exists(&rt, room.path("s.log")?.as_str())?);
+    assert!(rt;
+        room.run(&rt, "s.log", &["tidy"], "(a\n)a\n")?
+            .is(DONE, "(a\n)a\n", "")
+    );
+    assert!(rt;
         room.run(&rt, "s", &["run"], "names\n")?
             .is(NOT_A_STORE, "", "not a store")
     );
+    assert!(rt; !fs::exists(&rt, room.path("s")?.as_str())?);
     assert!(rt;
         room.run(&rt, "s", &["init", "16"], "")?
             .is(DONE, "ok\n", "")
@@ -94,7 +106,8 @@ fn a_store_that_is_locked_is_a_disk_fault(rt: HostRuntime) -> Result<(), Fail> {
     {
         let name = room.path("s")?;
         let (reader, writer) = (rt.stdin(), rt.stdout());
-        let mut host = FileHost::new(rt.alloc(), &rt, name.as_str(), reader, writer)?;
+        let streams = Streams::NO_FILES;
+        let mut host = FileHost::new(rt.alloc(), &rt, name.as_str(), reader, writer, streams)?;
         assert!(rt; host.length(Area::Pages).is_ok());
         assert!(rt;
             room.run(&rt, "s", &["run"], "names\n")?
@@ -102,5 +115,22 @@ fn a_store_that_is_locked_is_a_disk_fault(rt: HostRuntime) -> Result<(), Fail> {
         );
     }
     assert!(rt; room.run(&rt, "s", &["run"], "names\n")?.is(DONE, ".\n", ""));
+    room.remove()
+}
+
+// A line must not come into a file of the store, by whatever name.
+#[test]
+fn a_file_of_the_store_hears_nothing(rt: HostRuntime) -> Result<(), Fail> {
+    let room = Room::new(&rt, "heard")?;
+    let (store, link) = (room.path("s")?, room.path("link")?);
+    rt.symlink("s", link.as_str())?;
+    for name in ["s", "s.log", "link.log", "other"] {
+        let file = File::create(&rt, room.path(name)?.as_str())?;
+        let is_other = name == "other";
+        let is_far = is_other || name == "link.log";
+        assert!(rt; may_hear_of(&rt, &file, store.as_str()) == is_far);
+        assert!(rt; may_hear_of(&rt, &file, link.as_str()) == is_other);
+        assert!(rt; may_hear_of(&rt, &file, ""));
+    }
     room.remove()
 }
