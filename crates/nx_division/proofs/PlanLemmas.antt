@@ -19,7 +19,7 @@ use Rattle.nx_cuts.proofs.FeasibleLemmas.{deeper}
 use Rattle.nx_division.specs.declared.cut.Cut.{Cut}
 use Rattle.nx_division.specs.declared.cut.Cut.TheVariants.{Stays, Begins, GoesOn}
 use Rattle.nx_sketch.specs.Sketch.{Placed, placed, placed_in}
-use Rattle.nx_sketch.specs.Plan.{IsPlaced, IsInside, IsPlanOfPart, IsFeasiblePlan, KeepsClusters}
+use Rattle.nx_sketch.specs.Plan.{HasNodeAt, IsInside, IsPlanOfPart, IsFeasiblePlan, KeepsClusters}
 use Rattle.nx_division.specs.Drawn.{Drawn, Bare, Grown, bare, end_position, drawn_intervals, interval_count, heaviest, Rises, IsSoundDrawing, opened, NoneStays, AreKept}
 use Rattle.nx_division.proofs.LookLemmas.{Comes, sorted}
 use Rattle.nx_division.proofs.NumberLemmas.{IsNumbered, none_some, some_same, open_end, length-drawn_intervals}
@@ -38,7 +38,7 @@ placed_from low path (Grown p w e cut b s) r = (
       (weaker _ (placed_in path (bare s)) (λ node f. (f.0, f.1, f.2, (let far = f.3 in let near = r.0 in omega arith))) (placed_from (p + 1) path s r.2)),
 )
 
-row_placed : (path : List ℕ) (last i : ℕ) (s : Drawn) → IsSoundDrawing (Some last) s → last < i → i ≤ end_position last s → IsPlaced (placed_in path (bare s)) (path ++ i ∷ [])
+row_placed : (path : List ℕ) (last i : ℕ) (s : Drawn) → IsSoundDrawing (Some last) s → last < i → i ≤ end_position last s → HasNodeAt (placed_in path (bare s)) (path ++ i ∷ [])
 row_placed path last i Bare h a b = absurd (omega arith)
 row_placed path last i (Grown p w e Stays x s) h a b = absurd (omega arith)
 row_placed path last i (Grown p w e Begins x s) h a b = absurd (omega arith)
@@ -60,7 +60,7 @@ alone_end p (Grown q w e Stays b s) h = refl
 alone_end p (Grown q w e Begins b s) h = refl
 alone_end p (Grown q w e GoesOn b s) h = absurd (none_some h.1)
 
-opened_placed : (path : List ℕ) (e : Entry) (p i : ℕ) (s : Drawn) → IsSoundDrawing (opened e p) s → p < i → i ≤ end_position p s → IsPlaced (placed_in path (bare s)) (path ++ i ∷ [])
+opened_placed : (path : List ℕ) (e : Entry) (p i : ℕ) (s : Drawn) → IsSoundDrawing (opened e p) s → p < i → i ≤ end_position p s → HasNodeAt (placed_in path (bare s)) (path ++ i ∷ [])
 opened_placed path Standalone p i s h a b = absurd (let x = alone_end p s h in omega arith)
 opened_placed path Cluster p i s h a b = row_placed path p i s h a b
 opened_placed path Free p i s h a b = row_placed path p i s h a b

@@ -8,7 +8,7 @@ use Rattle.nx_matrix.specs.declared.rule.Entry.TheVariants.{Standalone, Cluster,
 use Rattle.nx_parts.specs.declared.interval.Interval.{Interval}
 use Rattle.nx_parts.specs.declared.interval.Interval.TheVariants.{Run}
 use Rattle.nx_sketch.specs.Sketch.{Sketch, Empty, Plant, Placed, sketch_weight}
-use Rattle.nx_sketch.specs.Plan.{IsPlaced, HasEntry}
+use Rattle.nx_sketch.specs.Plan.{HasNodeAt, HasEntry}
 use Rattle.nx_sketch.specs.Separator.{is_marked}
 use Rattle.nx_division.specs.declared.cut.Cut.{Cut}
 use Rattle.nx_division.specs.declared.cut.Cut.TheVariants.{Stays, Begins, GoesOn}
@@ -234,7 +234,7 @@ module _ (all : List Placed) (t tol room : ℕ) where
   ]
 
   -- no root behind the point is of the separator
-  later_unmarked : (a low : ℕ) (side : Option Side) (s : Sketch) → IsRow all t tol [] a low true true side s → t < a → (root : ℕ) → low ≤ root → IsPlaced all (root ∷ []) → is_marked all t tol (root ∷ []) ≡ true → ⊥
+  later_unmarked : (a low : ℕ) (side : Option Side) (s : Sketch) → IsRow all t tol [] a low true true side s → t < a → (root : ℕ) → low ≤ root → HasNodeAt all (root ∷ []) → is_marked all t tol (root ∷ []) ≡ true → ⊥
   later_unmarked a low side Empty r lt root le at m = let h = r.only at.0 at.1 root [] at.2 le in let none = h.1 in omega arith
   later_unmarked a low side (Plant p w e b s) r lt root le at m = elim (cases_lt root p) [
     | inl less ↦ none_before [] p w e b s low r.rising all r.only root le less at
@@ -257,7 +257,7 @@ module _ (all : List Placed) (t tol room : ℕ) where
   ends_behind a n h = grind (arith, nat_tests)
 
   -- a root that may join is found
-  pub root_found : (a base low : ℕ) (side : Option Side) (s : Sketch) → IsRow all t tol [] a low true true side s → (root : ℕ) → low ≤ root → IsPlaced all (root ∷ []) → is_marked all t tol (root ∷ []) ≡ true → ¬ HasEntry all (root ∷ []) Standalone
+  pub root_found : (a base low : ℕ) (side : Option Side) (s : Sketch) → IsRow all t tol [] a low true true side s → (root : ℕ) → low ≤ root → HasNodeAt all (root ∷ []) → is_marked all t tol (root ∷ []) ≡ true → ¬ HasEntry all (root ∷ []) Standalone
       → ((front back : List Interval) → drawn_intervals [] (separated t tol a true true side s) ≡ front ++ Run [] root root ∷ back → weight_at (base + length front) base (separated t tol a true true side s) ≤ room)
       → raised_root room t tol a (separated t tol a true true side s) ≡ Some root
   root_found a base low side Empty r root le at m free light = absurd (let h = r.only at.0 at.1 root [] at.2 le in let none = h.1 in omega arith)

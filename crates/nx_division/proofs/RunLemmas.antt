@@ -9,7 +9,7 @@ use Rattle.nx_matrix.specs.declared.rule.Entry.TheVariants.{Free}
 use Rattle.nx_parts.specs.declared.interval.Interval.TheVariants.{Run}
 use Rattle.nx_cuts.proofs.PairLemmas.{both}
 use Rattle.nx_sketch.specs.Sketch.{Sketch, Empty, Plant, Placed, placed_in, sketch_weight, AreRising}
-use Rattle.nx_sketch.specs.Plan.{IsPlaced, HasEntry}
+use Rattle.nx_sketch.specs.Plan.{HasNodeAt, HasEntry}
 use Rattle.nx_sketch.specs.Separator.{weight_before, weight_within, is_marked, is_left, IsLoose, IsSeparatorRun}
 use Rattle.nx_sketch.proofs.MarkLemmas.{IsWeighed}
 use Rattle.nx_division.specs.declared.cut.Cut.{Cut}
@@ -185,7 +185,7 @@ module _ (all : List Placed) (t tol : ℕ) where
           | inr top ↦
               let none = h.top top.0 in
               let marked = here_marked path a low root wide side p w e b s h ∙ top.1 in
-              inr (none, subst (λ q. IsPlaced all (q ++ p ∷ [])) none (has.0, has.1, has.2), subst (λ q. is_marked all t tol (q ++ p ∷ []) ≡ true) none marked)
+              inr (none, subst (λ q. HasNodeAt all (q ++ p ∷ [])) none (has.0, has.1, has.2), subst (λ q. is_marked all t tol (q ++ p ∷ []) ≡ true) none marked)
         ]),
       )
   begun_run Loose path a low root wide side p w e b s h k_is c hs =

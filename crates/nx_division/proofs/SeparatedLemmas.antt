@@ -8,7 +8,7 @@ use Rattle.nx_matrix.specs.declared.rule.Entry.{Entry}
 use Rattle.nx_matrix.specs.declared.rule.Entry.TheVariants.{Standalone, Cluster, Free}
 use Rattle.nx_cuts.proofs.FeasibleLemmas.{deeper, same_step}
 use Rattle.nx_sketch.specs.Sketch.{Sketch, Empty, Plant, Placed, placed_in, sketch_weight, AreRising, AreUnclustered}
-use Rattle.nx_sketch.specs.Plan.{IsPlaced, HasEntry}
+use Rattle.nx_sketch.specs.Plan.{HasNodeAt, HasEntry}
 use Rattle.nx_sketch.proofs.MarkLemmas.{placed_from}
 use Rattle.nx_division.specs.declared.cut.Cut.{Cut}
 use Rattle.nx_division.specs.declared.cut.Cut.TheVariants.{Stays, Begins, GoesOn}
@@ -242,7 +242,7 @@ module _ (path : List ℕ) (p w : ℕ) (e : Entry) (b s : Sketch) (low : ℕ) (r
         | inr later ↦ absurd (let far = later.0 in omega arith)
       ]
 
-  pub none_before : (all : List Placed) → OnlyHere all path low (Plant p w e b s) → (q : ℕ) → low ≤ q → q < p → IsPlaced all (path ++ q ∷ []) → ⊥
+  pub none_before : (all : List Placed) → OnlyHere all path low (Plant p w e b s) → (q : ℕ) → low ≤ q → q < p → HasNodeAt all (path ++ q ∷ []) → ⊥
   none_before all only q le lt at =
       elim (first_step at.0 q [] (only at.0 at.1 q [] at.2 le) at.2) [
         | inl here ↦ let same = here.0 in omega arith

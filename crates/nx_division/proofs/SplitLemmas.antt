@@ -13,7 +13,7 @@ use Rattle.nx_parts.specs.declared.interval.Interval.TheVariants.{Run}
 use Rattle.nx_parts.specs.Partitioning.{ShareMember}
 use Rattle.nx_cuts.proofs.PairLemmas.{PairsBy}
 use Rattle.nx_cuts.proofs.FeasibleLemmas.{reaches_child}
-use Rattle.nx_sketch.specs.Plan.{is_cluster, IsPlaced, IsInside, IsFeasiblePlan, KeepsClusters, AreNeighboursFull, placed_part_weight}
+use Rattle.nx_sketch.specs.Plan.{is_cluster, HasNodeAt, IsInside, IsFeasiblePlan, KeepsClusters, AreNeighboursFull, placed_part_weight}
 use Rattle.nx_sketch.specs.Separator.{IsSeparatorPlan, point}
 use Rattle.nx_sketch.specs.Split.{IsSplit, IsSeparatorSplit, IsRaised, IsDivision}
 use Rattle.nx_sketch.proofs.OrderLemmas.{one_plan}
@@ -140,7 +140,7 @@ module _ (k target tol : ℕ) (s : Sketch) (sketch : IsSketch s) where
       let x = Run [] root root in
       let same : runs ≡ h.before ++ x ∷ h.behind = one_plan (placed s) t tol runs (h.before ++ x ∷ h.behind) (planned s t tol sketch) h.split.separator in
       let inside = All-contains (IsInside (placed s)) (h.before ++ x ∷ h.behind) x h.split.feasible.plan.inside (Contains-append_right h.before (x ∷ h.behind) x (contains_here x h.behind x refl)) in
-      let at : IsPlaced (placed s) (root ∷ []) = inside.1 root (omega arith) (omega arith) in
+      let at : HasNodeAt (placed s) (root ∷ []) = inside.1 root (omega arith) (omega arith) in
       root_found (placed s) t tol room 0 0 0 None s (top_row s t tol sketch) root (omega arith) at h.marked h.unbound
       (λ front back is.
       let place = one_place runs front back h.before h.behind root (whole_apart plan (separator_whole s t tol sketch)) is same in

@@ -13,7 +13,7 @@ use Rattle.nx_parts.specs.declared.interval.Interval.{Interval}
 use Rattle.nx_parts.specs.declared.interval.Interval.TheVariants.{Root, Run}
 use Rattle.nx_parts.specs.Partitioning.{ShareMember, has_member, owner}
 use Rattle.nx_sketch.specs.Sketch.{Placed}
-use Rattle.nx_sketch.specs.Plan.{AreComponentsLight, AreNeighboursFull, HasEntry, IsAlone, IsFeasiblePlan, IsHeld, IsInside, IsOrdinary, IsPlaced, IsPlanOfPart, KeepsClusters, component_weight, is_cluster, placed_part_weight}
+use Rattle.nx_sketch.specs.Plan.{AreComponentsLight, AreNeighboursFull, HasEntry, IsAlone, IsFeasiblePlan, IsHeld, IsInside, IsOrdinary, HasNodeAt, IsPlanOfPart, KeepsClusters, component_weight, is_cluster, placed_part_weight}
 use Rattle.nx_division_tests.specs.Tests.{alone_member, alone_test, apart_test, beside_test, feasible_test, full_test, inside_test, is_standalone, kept_test, light_test, neighbours_test, ordinary_test, pairs_test, placed_test, plan_test, rooted_test, same_place, share_test}
 use Rattle.nx_division_tests.proofs.TestLemmas.{Decides-implies, Decides-implies_unless, Decides-leb, Decides-unless, all_decides, any_decides, each_decides, pairs_decides, places_decide, range_decides}
 use Rattle.nx_division_tests.proofs.PathLemmas.{AreBeside, beside_decides, end_of, front_of, lone_decides, not_empty, same_place-Decides, share_decides}
@@ -28,7 +28,7 @@ cluster_decides Standalone = (λ h. absurd (false≢true h), λ e. cc)
 cluster_decides Cluster = (λ _. refl, λ _. refl)
 cluster_decides Free = (λ h. absurd (false≢true h), λ e. cc)
 
-pub placed_decides : (nodes : List Placed) (path : List ℕ) → Decides (placed_test nodes path) (IsPlaced nodes path)
+pub placed_decides : (nodes : List Placed) (path : List ℕ) → Decides (placed_test nodes path) (HasNodeAt nodes path)
 placed_decides nodes path = any_decides (λ (n : Placed). bytes_eq n.path path) (λ (n : Placed). n.path ≡ path) (λ n. bytes_eq-Decides n.path path) nodes
 
 pub inside_decides : (nodes : List Placed) (interval : Interval) → Decides (inside_test nodes interval) (IsInside nodes interval)
@@ -38,7 +38,7 @@ inside_decides nodes (Run parent first last) =
     (λ h. (h.0, λ i low high. let le = h.0 in h.1 i low (omega arith)))
     (λ h. (h.0, λ i low high. h.1 i low (let le = h.0 in omega arith)))
     (Decides-and (leb first last) (list_all (λ i. placed_test nodes (parent ++ i ∷ [])) (range_with_len first (last + 1 - first))) (Decides-leb first last)
-    (range_decides (λ i. placed_test nodes (parent ++ i ∷ [])) (λ i. IsPlaced nodes (parent ++ i ∷ [])) (λ i. placed_decides nodes (parent ++ i ∷ [])) first (last + 1 - first)))
+    (range_decides (λ i. placed_test nodes (parent ++ i ∷ [])) (λ i. HasNodeAt nodes (parent ++ i ∷ [])) (λ i. placed_decides nodes (parent ++ i ∷ [])) first (last + 1 - first)))
 
 disjoint_decides : (parts : List Interval) → Decides (pairs_test apart_test parts) (AllPairs (λ a b. ¬ ShareMember a b) parts)
 disjoint_decides parts = pairs_decides apart_test (λ a b. ¬ ShareMember a b) (λ a b. Decides-not (share_test a b) (share_decides a b)) parts
@@ -51,7 +51,7 @@ one_step (x ∷ y ∷ xs) e = absurd (omega arith)
 held_decides : (parts : List Interval) (path : List ℕ) → Decides (list_any (λ interval. has_member interval path) parts) (IsHeld parts path)
 held_decides parts path = any_decides (λ interval. has_member interval path) (λ interval. IsTrue (has_member interval path)) (λ interval. (λ h. h, λ h. h)) parts
 
-rooted_decides : (nodes : List Placed) (parts : List Interval) → Decides (list_all (rooted_test parts) nodes) ((position : ℕ) → IsPlaced nodes (position ∷ []) → IsHeld parts (position ∷ []))
+rooted_decides : (nodes : List Placed) (parts : List Interval) → Decides (list_all (rooted_test parts) nodes) ((position : ℕ) → HasNodeAt nodes (position ∷ []) → IsHeld parts (position ∷ []))
 rooted_decides nodes parts =
     Decides-like (list_all (rooted_test parts) nodes)
     (λ h position at. subst (IsHeld parts) at.2 (h at.0 at.1 (ap length at.2)))

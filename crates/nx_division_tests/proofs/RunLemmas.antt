@@ -16,7 +16,7 @@ use Rattle.nx_parts.specs.declared.interval.Interval.{Interval}
 use Rattle.nx_parts.specs.declared.interval.Interval.TheVariants.{Root, Run}
 use Rattle.nx_parts.specs.Order.{AreInOrder, ComesBefore, first_member}
 use Rattle.nx_sketch.specs.Sketch.{Placed}
-use Rattle.nx_sketch.specs.Plan.{IsPlaced}
+use Rattle.nx_sketch.specs.Plan.{HasNodeAt}
 use Rattle.nx_sketch.specs.Separator.{IsLoose, IsSeparatorPlan, IsSeparatorRun, IsSingle, is_before, is_left, is_marked}
 use Rattle.nx_sketch.proofs.OrderLemmas.{comes_itself}
 use Rattle.nx_division_tests.specs.Runs.{AddsRun, BeginsRow, IsNoStart, IsOnlyRun, IsRowEnd, IsStart}
@@ -103,7 +103,7 @@ single_decides nodes t tolerance parent first =
       | inl s ↦ inl (h.0, h.1, h.2.0, s)
       | inr m ↦
           let none = no_parent parent first (sym (ap length h.2.0) ∙ m.0) in
-          inr (none, subst (λ r. IsPlaced nodes (r ++ first ∷ [])) none (h.0, h.1, h.2.0), subst (λ r. is_marked nodes t tolerance (r ++ first ∷ []) ≡ true) none (subst (λ q. is_marked nodes t tolerance q ≡ true) h.2.0 m.1))
+          inr (none, subst (λ r. HasNodeAt nodes (r ++ first ∷ [])) none (h.0, h.1, h.2.0), subst (λ r. is_marked nodes t tolerance (r ++ first ∷ []) ≡ true) none (subst (λ q. is_marked nodes t tolerance q ≡ true) h.2.0 m.1))
     ])
     (λ s. elim s as (λ _. (n : Placed) × Contains nodes n × ((n.path ≡ path) × ((n.entry ≡ Standalone) ⊎ ((length n.path ≡ 1) × (is_marked nodes t tolerance n.path ≡ true))))) [
       | inl at ↦ (at.0, at.1, (at.2, inl at.3))
@@ -336,11 +336,11 @@ planned_more {nodes} {t} {tolerance} o index node old new here (inl none) s = su
 planned_more {nodes} {t} {tolerance} o index node old new here (inr one) s = subst (PlannedSoFar nodes t tolerance (index + 1)) (sym one.2) (planned_one {nodes = nodes} {t = t} {tolerance = tolerance} o index node old one.0 here one.1 s)
 
 -- each of them begins with a node
-first_placed : (nodes : List Placed) (t tolerance : ℕ) (interval : Interval) → IsSeparatorRun nodes t tolerance interval → IsPlaced nodes (first_member interval)
+first_placed : (nodes : List Placed) (t tolerance : ℕ) (interval : Interval) → IsSeparatorRun nodes t tolerance interval → HasNodeAt nodes (first_member interval)
 first_placed nodes t tolerance Root run = absurd run
 first_placed nodes t tolerance (Run parent first last) (inr row) = let f = (row.loose first (omega arith) row.some).free in (f.0, f.1, f.2)
 first_placed nodes t tolerance (Run parent first last) (inl (same, inl at)) = (at.0, at.1, at.2)
-first_placed nodes t tolerance (Run parent first last) (inl (same, inr root)) = subst (λ r. IsPlaced nodes (r ++ first ∷ [])) (sym root.0) root.1
+first_placed nodes t tolerance (Run parent first last) (inl (same, inr root)) = subst (λ r. HasNodeAt nodes (r ++ first ∷ [])) (sym root.0) root.1
 
 pub planned_end : (nodes : List Placed) (t tolerance index : ℕ) (found : List Interval) → length nodes ≤ index → PlannedSoFar nodes t tolerance index found → IsSeparatorPlan nodes t tolerance found
 planned_end nodes t tolerance index found end s =

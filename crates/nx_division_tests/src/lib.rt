@@ -5,18 +5,10 @@
 #[cfg(test)]
 mod examples;
 #[cfg(test)]
-mod fill;
-#[cfg(test)]
 mod matrix;
 #[cfg(test)]
 mod nodes;
 #[cfg(test)]
 mod plain;
 #[cfg(test)]
-mod random;
-#[cfg(test)]
-mod shapes;
-#[cfg(test)]
 mod sketches;
-#[cfg(test)]
-mod small;

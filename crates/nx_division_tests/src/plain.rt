@@ -11,5 +11,5 @@ mod weights;
 pub(crate) use clusters::are_light;
 pub(crate) use plans::is_feasible_plan;
 pub(crate) use separator::{are_ordered, separator_plan};
-pub(crate) use split::{are_same, is_split};
+pub(crate) use split::is_split;
 pub(crate) use weights::{part_weight, point};

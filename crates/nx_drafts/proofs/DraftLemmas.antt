@@ -25,7 +25,7 @@ use Rattle.nx_cuts.proofs.DeepLemmas.{drawn_adds}
 use Rattle.nx_cuts.proofs.FeasibleLemmas.{IsDrawn, Members, no_truth}
 use Rattle.nx_layouts.specs.Layout.{Layout, without_places, laid_forest}
 use Rattle.nx_sketch.specs.Sketch.{Sketch, Placed, placed}
-use Rattle.nx_sketch.specs.Plan.{IsInside, IsPlaced}
+use Rattle.nx_sketch.specs.Plan.{IsInside, HasNodeAt}
 use Rattle.nx_sketch.specs.Split.{IsDivision}
 use Rattle.nx_split.specs.Piece.{asked_of_root}
 use Rattle.nx_drawn.specs.Splits.{part_nodes, part_sketch, Divides}
@@ -173,7 +173,7 @@ held_any (y ∷ parts) x q (zero, lt, e) t none = no_truth (sym (either_false (h
 held_any (y ∷ parts) x q (suc i, lt, e) t none = held_any parts x q (i, omega arith, e) t (either_false (has_member y q) (any_holds parts q) none).1
 
 -- the one root that no interval of a division has is the one that is raised
-unheld_root : (k room target tolerance : ℕ) (s : Sketch) (parts : List Interval) (raised : Option ℕ) → IsDivision k (placed s) room target tolerance parts raised → (p : ℕ) → IsPlaced (placed s) (p ∷ []) → any_holds parts (p ∷ []) ≡ false → raised ≡ Some p
+unheld_root : (k room target tolerance : ℕ) (s : Sketch) (parts : List Interval) (raised : Option ℕ) → IsDivision k (placed s) room target tolerance parts raised → (p : ℕ) → HasNodeAt (placed s) (p ∷ []) → any_holds parts (p ∷ []) ≡ false → raised ≡ Some p
 unheld_root k room target tolerance s parts None d p at none =
     let held = (split_feasible k (placed s) target tolerance parts d.0).plan.rooted p at in
     absurd (held_any parts held.0 (p ∷ []) held.1 held.2 none)

@@ -15,7 +15,7 @@ use Rattle.nx_cuts.proofs.FreeLemmas.{child_back}
 use Rattle.nx_layouts.specs.Layout.{Layout, without_places, laid_forest}
 use Rattle.nx_layouts.specs.Replace.{joined_layout}
 use Rattle.nx_sketch.specs.Sketch.{Placed, placed_in}
-use Rattle.nx_sketch.specs.Plan.{IsPlaced}
+use Rattle.nx_sketch.specs.Plan.{HasNodeAt}
 use Rattle.nx_split.specs.Piece.{asked}
 use Rattle.nx_drawn.specs.Splits.{part_sketch}
 use Rattle.nx_layouts.proofs.DrawnLemmas.{drawn_wide}
@@ -156,7 +156,7 @@ module _ (rules : List Rule) where
       }) (nodes_open asks path (position + width (without_places m)) s)
 
   -- a tree at an open position is a node of the part
-  pub top_placed : (asks : Node → Entry) (path : List ℕ) (position step : ℕ) (c : Layout) → OpenRow step (λ b. Unit {0}) c → IsPlaced (placed_in path (part_sketch rules asks position (without_places c))) (path ++ (position + step) ∷ [])
+  pub top_placed : (asks : Node → Entry) (path : List ℕ) (position step : ℕ) (c : Layout) → OpenRow step (λ b. Unit {0}) c → HasNodeAt (placed_in path (part_sketch rules asks position (without_places c))) (path ++ (position + step) ∷ [])
   top_placed asks path position step Bare o = absurd o
   top_placed asks path position zero (Grown n b s) o =
       let here = path ++ position ∷ [] in
@@ -184,7 +184,7 @@ at_place P (y ∷ xs) a x (zero, lt, e) = subst P e a.0
 at_place P (y ∷ xs) a x (suc i, lt, e) = at_place P xs a.1 x (i, omega arith, e)
 
 -- each node of a part is at the end of an open path
-pub placed_open : (rules : List Rule) (asks : Node → Entry) (c : Layout) (path : List ℕ) → IsPlaced (placed_in [] (part_sketch rules asks 0 (without_places c))) path → OpenAt path c
+pub placed_open : (rules : List Rule) (asks : Node → Entry) (c : Layout) (path : List ℕ) → HasNodeAt (placed_in [] (part_sketch rules asks 0 (without_places c))) path → OpenAt path c
 placed_open rules asks c path p =
     let o = at_place (IsOpen [] 0 c) (placed_in [] (part_sketch rules asks 0 (without_places c))) (nodes_open rules asks [] 0 c) p.0 p.1 in
     let e : o.step ∷ o.rest ≡ path = ap (λ (i : ℕ). i ∷ o.rest) (let z : o.step ≡ 0 + o.step = omega arith in z) ∙ sym o.is ∙ p.2 in

@@ -23,7 +23,7 @@ use Rattle.nx_cuts.specs.Cut.{Cut, CutForest, Bare, Grown, Kept, forest, width, 
 use Rattle.nx_cuts.proofs.FeasibleLemmas.{Members, IsDrawn, agrees-drawn, owned-drawn, weight_at, weight-light, weight-above, length-intervals, child_reaches, le_or, or_nothing, top_nothing, from, trees, trees-forest}
 use Rattle.nx_cuts.proofs.PartitionLemmas.{drawn_feasible}
 use Rattle.nx_sketch.specs.Sketch.{Placed, placed_in}
-use Rattle.nx_sketch.specs.Plan.{IsPlaced, IsInside, IsFeasiblePlan}
+use Rattle.nx_sketch.specs.Plan.{HasNodeAt, IsInside, IsFeasiblePlan}
 use Rattle.nx_sketch.specs.Split.{IsSplit}
 use Rattle.nx_split.specs.Piece.{asked, asked_of_root}
 use Rattle.nx_holdings.specs.declared.header.Settings.{Settings}

@@ -1,9 +1,9 @@
 // Rows of trees, bounded beside each other: the first one by the thread that there is.
-ghost use Rattle.std.specs.Prelude.{◌≡◌, ◌<◌, ◌≤◌, [], length, IfOk, IfSome};
+ghost use Rattle.std.specs.Prelude.{◌≡◌, ◌<◌, ◌≤◌, [], length, IfErr, IfOk, IfSome};
 ghost use Rattle.std.specs.Thread.{IsSync};
-ghost use Rattle.nx_tree.specs.Forest.{nodes};
+ghost use Rattle.nx_tree.specs.Forest.{forest_of, nodes};
 ghost use Rattle.nx_weights.specs.Weight.{IsWithinLimits};
-ghost use Rattle.nx_partition.specs.Bounding.{Extends};
+ghost use Rattle.nx_partition.specs.Bounding.{Extends, IsBoundRefused, AreBoundsRefused};
 ghost use Rattle.nx_par.specs.Adding.{CanBound, CanBoundRow, ExtendsByAll, AreTwoToBound};
 
 use crate::Gate;
@@ -34,7 +34,8 @@ pub fn bound_one<R: Threads + Sync, G: Gate>(
     requires counted { share.nodes ≡ nodes tree.now.below }
     requires numbers { IfSome share.first (λ number. number ≡ 0) }
     requires limits { IsWithinLimits tree.now }
-    ensures { IfOk result (λ new. Extends k tree.now list.items new.items) }
+    ensures ok { IfOk result (λ new. Extends k tree.now list.items new.items) }
+    ensures refused { IfErr result (λ error. IsBoundRefused k tree.now error) }
 {
     if weight(&tree.node) > k {
         return Err(BoundError::TooHeavy);
@@ -75,7 +76,8 @@ pub fn bound_rows<R: Threads + Sync, G: Gate>(
     list: Vec<Bound>,
 ) -> Result<Vec<Bound>, BoundError>
     requires { CanBound k share trees.now }
-    ensures { IfOk result (λ new. ExtendsByAll k trees.now list.items new.items) }
+    ensures ok { IfOk result (λ new. ExtendsByAll k trees.now list.items new.items) }
+    ensures refused { IfErr result (λ error. AreBoundsRefused k (forest_of trees.now) error) }
 {
     if share.workers == 1 || trees.is_empty() || share.first.is_none() && share.nodes < FEW {
         return bound_row(alloc, trees, share.first, k, gate, list);
@@ -109,17 +111,20 @@ fn bound_at_once<R: Threads + Sync, G: Gate>(
     list: Vec<Bound>,
 ) -> Result<Vec<Bound>, BoundError>
     requires { AreTwoToBound k trees.now two }
-    ensures { IfOk result (λ new. ExtendsByAll k trees.now list.items new.items) }
+    ensures ok { IfOk result (λ new. ExtendsByAll k trees.now list.items new.items) }
+    ensures refused { IfErr result (λ error. AreBoundsRefused k (forest_of trees.now) error) }
 {
     let (front, back) = trees.split_at(two.at);
     let more = Vec::with_capacity(alloc, two.back.nodes)?;
     let last = move || -> Result<Vec<Bound>, BoundError>
         requires { IsSync R.row × IsSync G.row × CanBound k two.back back.now × (more.items ≡ []) }
-        ensures { IfOk result (λ new. ExtendsByAll k back.entry.now [] new.items) }
+        ensures ok { IfOk result (λ new. ExtendsByAll k back.entry.now [] new.items) }
+        ensures refused { IfErr result (λ error. AreBoundsRefused k (forest_of back.entry.now) error) }
     { bound_rows(rt, alloc, back, two.back, k, gate, more) };
     let others = move || -> Result<Vec<Bound>, BoundError>
         requires { IsSync R.row × IsSync G.row × CanBound k two.front front.now }
-        ensures { IfOk result (λ new. ExtendsByAll k front.entry.now list.items new.items) }
+        ensures ok { IfOk result (λ new. ExtendsByAll k front.entry.now list.items new.items) }
+        ensures refused { IfErr result (λ error. AreBoundsRefused k (forest_of front.entry.now) error) }
     { bound_rows(rt, alloc, front, two.front, k, gate, list) };
     let (high, low) = join(rt, last, others);
     let mut list = low?;
@@ -139,7 +144,8 @@ fn bound_in_turn<R: Threads + Sync, G: Gate>(
     list: Vec<Bound>,
 ) -> Result<Vec<Bound>, BoundError>
     requires { AreTwoToBound k trees.now two }
-    ensures { IfOk result (λ new. ExtendsByAll k trees.now list.items new.items) }
+    ensures ok { IfOk result (λ new. ExtendsByAll k trees.now list.items new.items) }
+    ensures refused { IfErr result (λ error. AreBoundsRefused k (forest_of trees.now) error) }
 {
     let (front, back) = trees.split_at(two.at);
     let list = bound_rows(rt, alloc, front, two.front, k, gate, list)?;
@@ -156,7 +162,8 @@ pub fn bound_row<G: Gate>(
     list: Vec<Bound>,
 ) -> Result<Vec<Bound>, BoundError>
     requires { CanBoundRow k first trees.now }
-    ensures { IfOk result (λ new. ExtendsByAll k trees.now list.items new.items) }
+    ensures ok { IfOk result (λ new. ExtendsByAll k trees.now list.items new.items) }
+    ensures refused { IfErr result (λ error. AreBoundsRefused k (forest_of trees.now) error) }
 {
     let mut list = list;
     let mut scratch = Scratch::new(alloc);

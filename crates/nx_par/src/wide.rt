@@ -2,7 +2,7 @@
 ghost use Rattle.std.specs.Prelude.{◌≡◌, ◌≤◌, IfErr, IfOk, IfSome};
 ghost use Rattle.nx_weights.specs.Weight.{IsWithinLimits};
 ghost use Rattle.nx_parts.specs.Minima.{AreMinima};
-ghost use Rattle.nx_partition.specs.Bounding.{Extends, IsPlanRefused};
+ghost use Rattle.nx_partition.specs.Bounding.{Extends, IsBoundRefused, IsPlanRefused};
 
 use crate::Gate;
 use crate::rows::{bound_one, share_below};
@@ -61,7 +61,8 @@ fn found_wide<R: Threads + Sync, G: Gate>(
     requires bound { k ≤ 256 }
     requires workers { 1 ≤ workers }
     requires limits { IsWithinLimits tree.now }
-    ensures { IfOk result (λ bounds. AreMinima k tree.now bounds) }
+    ensures ok { IfOk result (λ bounds. AreMinima k tree.now bounds) }
+    ensures refused { IfErr result (λ error. IsBoundRefused k tree.now error) }
 {
     let list = Vec::with_capacity(alloc, count(tree) as usize)?;
     let list = if matches!(tree.node.kind, Kind::Doc) {
@@ -87,7 +88,8 @@ fn bound_document<R: Threads + Sync, G: Gate>(
     requires bound { k ≤ 256 }
     requires workers { 1 ≤ workers }
     requires limits { IsWithinLimits tree.now }
-    ensures { IfOk result (λ new. Extends k tree.now list.items new.items) }
+    ensures ok { IfOk result (λ new. Extends k tree.now list.items new.items) }
+    ensures refused { IfErr result (λ error. IsBoundRefused k tree.now error) }
 {
     if weight(&tree.node) > k {
         return Err(BoundError::TooHeavy);

@@ -9,12 +9,8 @@ mod bounding;
 #[cfg(test)]
 mod meeting;
 #[cfg(test)]
-mod random;
-#[cfg(test)]
 mod refused;
 #[cfg(test)]
 mod rows;
 #[cfg(test)]
 mod shapes;
-#[cfg(test)]
-mod telling;

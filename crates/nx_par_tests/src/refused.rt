@@ -59,23 +59,3 @@ fn the_first_of_two(rt: HostRuntime) -> Result<(), Fail> {
     text.extend_from_slice(b")r\n")?;
     refuses(&rt, rt.alloc(), text.as_slice(), &[0, 70])
 }
-
-// More than 2,048 children, of which the last one is too heavy.
-#[test]
-fn among_many(rt: HostRuntime) -> Result<(), Fail> {
-    let mut text = Vec::from_slice(rt.alloc(), b"?step 1\n(r\n")?;
-    groups(&mut text, 3_000, 2)?;
-    heavy(&mut text)?;
-    text.extend_from_slice(b")r\n")?;
-    refuses(&rt, rt.alloc(), text.as_slice(), &[1, 3_000])
-}
-
-// A node over all others, which one thread bounds at the end.
-#[test]
-fn over_all(rt: HostRuntime) -> Result<(), Fail> {
-    let mut text = Vec::from_slice(rt.alloc(), b"(nnnnnnnnnnnnnnnnnnnnnnnnnnnnnnnnnnnnnnnn\n")?;
-    groups(&mut text, 60, 100)?;
-    heavy(&mut text)?;
-    text.extend_from_slice(b")nnnnnnnnnnnnnnnnnnnnnnnnnnnnnnnnnnnnnnnn\n")?;
-    refuses(&rt, rt.alloc(), text.as_slice(), &[0])
-}

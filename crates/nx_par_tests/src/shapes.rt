@@ -41,32 +41,6 @@ fn a_wide_root(rt: HostRuntime) -> Result<(), Fail> {
     agree(&rt, rt.alloc(), records.as_slice())
 }
 
-// A root element over 60 elements, and over three with 2,100 children each.
-#[test]
-fn groups_of_texts(rt: HostRuntime) -> Result<(), Fail> {
-    let mut many = begun(rt.alloc())?;
-    groups(&mut many, 60, 100)?;
-    end(&mut many)?;
-    agree(&rt, rt.alloc(), many.as_slice())?;
-    let mut few = begun(rt.alloc())?;
-    groups(&mut few, 3, 2_100)?;
-    end(&mut few)?;
-    agree(&rt, rt.alloc(), few.as_slice())
-}
-
-// 2,500 texts beside one element that has more nodes than they.
-#[test]
-fn one_large_tree_among_many(rt: HostRuntime) -> Result<(), Fail> {
-    let mut text = begun(rt.alloc())?;
-    texts_of(&mut text, 1_200)?;
-    text.extend_from_slice(b"(large\n")?;
-    groups(&mut text, 50, 100)?;
-    text.extend_from_slice(b")large\n")?;
-    texts_of(&mut text, 1_300)?;
-    end(&mut text)?;
-    agree(&rt, rt.alloc(), text.as_slice())
-}
-
 // Elements one within the other, each with a text before and behind it, over 60 elements of 100 texts.
 #[test]
 fn elements_that_wrap(rt: HostRuntime) -> Result<(), Fail> {
@@ -85,18 +59,4 @@ fn elements_that_wrap(rt: HostRuntime) -> Result<(), Fail> {
         agree(&rt, rt.alloc(), text.as_slice())?;
     }
     Ok(())
-}
-
-// A row of two trees within each other, so that each node has two children: depth 11.
-#[test]
-fn pairs_of_pairs(rt: HostRuntime) -> Result<(), Fail> {
-    let mut text = Vec::from_slice(rt.alloc(), b"(e\n)e\n")?;
-    for _ in 0..11u32 {
-        let mut pair = Vec::from_slice(rt.alloc(), b"(e\n")?;
-        pair.extend_from_slice(text.as_slice())?;
-        pair.extend_from_slice(text.as_slice())?;
-        pair.extend_from_slice(b")e\n")?;
-        text = pair;
-    }
-    agree(&rt, rt.alloc(), text.as_slice())
 }

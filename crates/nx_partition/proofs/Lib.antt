@@ -6,3 +6,4 @@ pub mod PlanLemmas
 pub mod StandLemmas
 pub mod WalkLemmas
 pub mod WholeLemmas
+pub mod LightLemmas

@@ -2,7 +2,7 @@
 ghost use Rattle.std.specs.Prelude.{◌≤◌, IfOk, OnOk, IfErr};
 ghost use Rattle.nx_weights.specs.Weight.{IsAtMost, IsWithinLimits};
 ghost use Rattle.nx_parts.specs.Minima.{IsMinima, AreMinima, AreMinimaOf};
-ghost use Rattle.nx_partition.specs.Bounding.{Extends, IsPlanRefused};
+ghost use Rattle.nx_partition.specs.Bounding.{Extends, IsBoundRefused, IsPlanRefused};
 
 use crate::scratch::{Scratch, as_bound, as_child};
 use crate::{BoundError, PlanError};
@@ -72,7 +72,7 @@ pub fn bound_of(alloc: Global, tree: &Tree, k: u32, children: &Bounds) -> Result
 /// Adds the minima of the tree's nodes to the list. The tree is a document or one in it, and `k` is from 1 to 256.
 /// What was allocated for one tree serves the next.
 ///
-/// Errors: `TooHeavy` where a node weighs more than `k`. `Memory` where there is none for what the call has to keep. The
+/// Errors: `TooHeavy`, only where a node weighs more than `k`. `Memory` where there is none for what the call has to keep. The
 /// list may have grown by some of the minima then.
 pub fn bound_tree(
     tree: &Tree,
@@ -83,7 +83,8 @@ pub fn bound_tree(
     requires some { 1 ≤ k }
     requires bound { k ≤ 256 }
     requires limits { IsWithinLimits tree.now }
-    ensures { OnOk result (Extends k tree.now list.old.items list.new.items) }
+    ensures ok { OnOk result (Extends k tree.now list.old.items list.new.items) }
+    ensures refused { IfErr result (λ error. IsBoundRefused k tree.now error) }
 {
     if weight(&tree.node) > k {
         return Err(BoundError::TooHeavy);

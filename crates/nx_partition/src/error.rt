@@ -1,6 +1,7 @@
 // Why there are no bounds of a tree.
 ghost use Rattle.std.specs.Prelude.{◌≡◌};
 ghost use Rattle.nx_partition.specs.declared.error.PlanError.TheVariants.{Memory};
+ghost use Rattle.nx_partition.specs.declared.error.BoundError.TheVariants as bound;
 
 use nx_lists::NoMemory;
 use nx_tree::Path;
@@ -46,18 +47,24 @@ pub enum BoundError {
 }
 
 impl From<NoMemory> for BoundError {
+    ghost from_gives = { λ _ e. e ≡ bound.Memory };
+
     fn from(_: NoMemory) -> BoundError {
         BoundError::Memory
     }
 }
 
 impl From<AllocError> for BoundError {
+    ghost from_gives = { λ _ e. e ≡ bound.Memory };
+
     fn from(_: AllocError) -> BoundError {
         BoundError::Memory
     }
 }
 
 impl<T: Drop> From<AllocFailed<T>> for BoundError {
+    ghost from_gives = { λ _ e. e ≡ bound.Memory };
+
     fn from(_: AllocFailed<T>) -> BoundError {
         BoundError::Memory
     }

@@ -2,16 +2,8 @@
 #![tactic(auto)]
 
 #[cfg(test)]
-mod cutting;
-#[cfg(test)]
 mod examples;
 #[cfg(test)]
 mod far;
 #[cfg(test)]
-mod made;
-#[cfg(test)]
-mod random;
-#[cfg(test)]
 mod reads;
-#[cfg(test)]
-mod trial;

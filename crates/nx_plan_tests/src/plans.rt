@@ -1,7 +1,7 @@
 // Texts of plans, and plans that are certified or refused.
 ghost use Rattle.nx_tree.specs.Document.{IsDocument};
 
-use nx_bounds::{BoundsError, Field, certified, read_plan, write_plan};
+use nx_bounds::{BoundsError, certified, read_plan, write_plan};
 use nx_document_tests::read;
 use nx_parts::{PartsError, Plan};
 use nx_tree::{Bytes, Tree};
@@ -155,38 +155,6 @@ const REFUSED: [(u32, &[u8], BoundsError); 4] = [
     ),
 ];
 
-// A plan, and the number in it that isn't supported.
-const UNSUPPORTED: [(&[u8], u32, Field, u32, u32); 4] = [
-    (
-        b"root 3\nbound 0 1 3 1\nbound 1 2 2 2\n",
-        1,
-        Field::Least,
-        2,
-        1,
-    ),
-    (
-        b"root 3\nbound 0 2 3 1\nbound 1 1 2 2\n",
-        0,
-        Field::Least,
-        2,
-        1,
-    ),
-    (
-        b"root 3\nbound 0 1 4 1\nbound 1 1 2 2\n",
-        0,
-        Field::Lean,
-        4,
-        3,
-    ),
-    (
-        b"root 3\nbound 0 1 3 2\nbound 1 1 2 2\n",
-        0,
-        Field::Nearly,
-        2,
-        1,
-    ),
-];
-
 fn claimed(alloc: Global, text: &[u8], weights: Option<&[u64]>) -> Result<Plan, BoundsError> {
     let mut plan = read_plan(alloc, text)?;
     if let Some(weights) = weights {
@@ -237,21 +205,6 @@ fn verdicts(rt: HostRuntime) -> Result<(), Fail> {
     for (k, text, refusal) in REFUSED {
         let found = verdict(&rt, rt.alloc(), k, text, None)?;
         assert_eq!(rt; found, Err(refusal));
-    }
-    Ok(())
-}
-
-#[test]
-fn verdicts_on_bounds(rt: HostRuntime) -> Result<(), Fail> {
-    for (text, node, field, claimed, found) in UNSUPPORTED {
-        let refusal = BoundsError::Unsupported {
-            node,
-            field,
-            claimed,
-            found,
-        };
-        let verdict = verdict(&rt, rt.alloc(), 3, text, None)?;
-        assert_eq!(rt; verdict, Err(refusal));
     }
     Ok(())
 }

@@ -9,12 +9,11 @@ mod plain;
 mod planned;
 mod random;
 
-use choices::{Child, claim, first_exceeded};
+use choices::claim;
 use claims::{any_supported, check_bounds};
 use documents::{Shape, any_intervals, document, partitioning, partitioning_codes, push_shapes};
 use minima::{Measured, measure, minima};
 use nx_bounds::{BoundsError, Field, supported};
-use nx_document_tests::read;
 use nx_parts::{Bound, Bounds, Partitioning, PartsError, check_feasible};
 use nx_tree::{NoMemory, Tree};
 use plain::{check_plainly, placed_nodes, slots};
@@ -504,129 +503,4 @@ fn check_list(
     assert!(rt; 0 < k && k <= 256);
     assert!(rt; list.len() < 100);
     supported(alloc, tree, k, list)
-}
-
-// An element of that weight over so many empty texts.
-fn drawn_document(alloc: Global, own: u32, children: u32) -> Result<Vec<u8>, NoMemory> {
-    let name = drawn_name(alloc, own)?;
-    let mut text = Vec::new(alloc);
-    push_line(&mut text, b'(', name.as_slice())?;
-    for _ in 0..children {
-        push_line(&mut text, b'-', b"")?;
-    }
-    push_line(&mut text, b')', name.as_slice())?;
-    Ok(text)
-}
-
-// The name of an element of that weight.
-fn drawn_name(alloc: Global, own: u32) -> Result<Vec<u8>, NoMemory> {
-    let mut name = Vec::new(alloc);
-    for _ in 1..own {
-        name.extend_from_slice(b"eightbyt")?;
-    }
-    Ok(name)
-}
-
-fn push_line(text: &mut Vec<u8>, code: u8, name: &[u8]) -> Result<(), NoMemory> {
-    text.push(code)?;
-    text.extend_from_slice(name)?;
-    text.push(b'\n')?;
-    Ok(())
-}
-
-fn drawn_bound(random: &mut Random, k: u32) -> Bound {
-    Bound {
-        least: random.below(9),
-        lean: random.below(k.saturating_add(2)),
-        nearly: random.below(k.saturating_add(2)),
-    }
-}
-
-fn drawn_child(random: &mut Random, k: u32) -> Child {
-    Child {
-        least: random.below(3),
-        lean: random.below(k).saturating_add(1),
-        nearly: random.below(k).saturating_add(1),
-    }
-}
-
-fn drawn_children(
-    alloc: Global,
-    random: &mut Random,
-    k: u32,
-    number: u32,
-) -> Result<Vec<Child>, NoMemory> {
-    let mut children = Vec::new(alloc);
-    for _ in 0..number {
-        children.push(drawn_child(random, k))?;
-    }
-    Ok(children)
-}
-
-// What is claimed of the element and its children. Nothing is claimed of the root.
-fn drawn_bounds(alloc: Global, bound: Bound, children: &[Child]) -> Result<Vec<Bound>, NoMemory> {
-    let mut bounds = Vec::new(alloc);
-    bounds.push(Bound {
-        least: 0,
-        lean: 0,
-        nearly: 0,
-    })?;
-    bounds.push(bound)?;
-    for child in children {
-        bounds.push(Bound {
-            least: child.least,
-            lean: child.lean,
-            nearly: child.nearly,
-        })?;
-    }
-    Ok(bounds)
-}
-
-// The number of the element's bound that no choice supports, and what one does; `None` where the element has
-// none.
-fn refused_number(
-    rt: &impl Abort,
-    alloc: Global,
-    k: u32,
-    text: &[u8],
-    bounds: &[Bound],
-) -> Result<Option<(Field, u32)>, Fail> {
-    let tree = read(alloc, text)?;
-    match check_claims(rt, alloc, k, &tree, bounds)? {
-        Err(
-            BoundsError::Unsupported {
-                node: 1,
-                field,
-                found,
-                ..
-            },
-        ) => Ok(Some((field, found))),
-        Err(BoundsError::Unsupported { .. }) | Ok(()) => Ok(None),
-        Err(error) => Err(error.into()),
-    }
-}
-
-fn try_drawn(rt: &impl Abort, alloc: Global, random: &mut Random) -> Result<(), Fail> {
-    let k = random.below(6).saturating_add(1);
-    let own = random.below(k).saturating_add(2);
-    let number = random.below(6);
-    let text = drawn_document(alloc, own, number)?;
-    let bound = drawn_bound(random, k);
-    let children = drawn_children(alloc, random, k, number)?;
-    let bounds = drawn_bounds(alloc, bound, children.as_slice())?;
-    let found = refused_number(rt, alloc, k, text.as_slice(), bounds.as_slice())?;
-    let want = first_exceeded(k, u64::from(own), children.as_slice(), bound);
-    assert_eq!(rt; found, want, "{k} {own} {children:?} {bound:?}");
-    Ok(())
-}
-
-// An element whose children have drawn bounds: its own bound is refused for the number that no choice
-// supports.
-#[test]
-fn tries_drawn_bounds(rt: HostRuntime) -> Result<(), Fail> {
-    let mut random = Random::new(3);
-    for _ in 0..2000 {
-        try_drawn(&rt, rt.alloc(), &mut random)?;
-    }
-    Ok(())
 }

@@ -10,8 +10,8 @@ use Rattle.nx_parts.specs.Partitioning.{ShareMember, has_member, owner, owns}
 use Rattle.nx_sketch.specs.Sketch.{Placed}
 
 -- a node stands at the path
-abbrev pub IsPlaced : List Placed → List ℕ → Type 0
-IsPlaced placed path = (node : Placed) × Contains placed node × (node.path ≡ path)
+abbrev pub HasNodeAt : List Placed → List ℕ → Type 0
+HasNodeAt placed path = (node : Placed) × Contains placed node × (node.path ≡ path)
 
 -- the node at the path has this entry
 abbrev pub HasEntry : List Placed → List ℕ → Entry → Type 0
@@ -21,7 +21,7 @@ HasEntry placed path entry = (node : Placed) × Contains placed node × (node.pa
 abbrev pub IsInside : List Placed → Interval → Type 0
 IsInside placed Root = ⊥
 IsInside placed (Run parent first last) =
-    (first ≤ last) × ((position : ℕ) → first ≤ position → position ≤ last → IsPlaced placed (parent ++ position ∷ []))
+    (first ≤ last) × ((position : ℕ) → first ≤ position → position ≤ last → HasNodeAt placed (parent ++ position ∷ []))
 
 -- some interval has the node at the path as a member
 abbrev pub IsHeld : List Interval → List ℕ → Type 0
@@ -35,7 +35,7 @@ IsAlone parts parent position = Contains parts (Run parent position position)
 pub record IsPlanOfPart (placed : List Placed) (parts : List Interval) : Type 0 where
   pub inside : All (IsInside placed) parts
   pub disjoint : AllPairs (λ a b. ¬ ShareMember a b) parts
-  pub rooted : (position : ℕ) → IsPlaced placed (position ∷ []) → IsHeld parts (position ∷ [])
+  pub rooted : (position : ℕ) → HasNodeAt placed (position ∷ []) → IsHeld parts (position ∷ [])
   pub alone : (parent : List ℕ) (position : ℕ) → HasEntry placed (parent ++ position ∷ []) Standalone → IsAlone parts parent position
 
 -- what the part of an interval weighs: all nodes that it owns

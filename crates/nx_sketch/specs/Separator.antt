@@ -8,7 +8,7 @@ use Rattle.nx_parts.specs.declared.interval.Interval.{Interval}
 use Rattle.nx_parts.specs.declared.interval.Interval.TheVariants.{Root, Run}
 use Rattle.nx_parts.specs.Order.{AreInOrder}
 use Rattle.nx_sketch.specs.Sketch.{Placed}
-use Rattle.nx_sketch.specs.Plan.{IsPlaced, HasEntry, is_prefix}
+use Rattle.nx_sketch.specs.Plan.{HasNodeAt, HasEntry, is_prefix}
 
 -- where the part is divided: its weight times the target, of a hundred, rounded down
 abbrev pub point : List Placed → ℕ → ℕ
@@ -49,7 +49,7 @@ pub record IsLoose (placed : List Placed) (t tolerance : ℕ) (left : Bool) (pat
 abbrev pub IsSingle : List Placed → ℕ → ℕ → List ℕ → ℕ → Type 0
 IsSingle placed t tolerance parent position =
     HasEntry placed (parent ++ position ∷ []) Standalone
-    ⊎ ((parent ≡ []) × IsPlaced placed (position ∷ []) × (is_marked placed t tolerance (position ∷ []) ≡ true))
+    ⊎ ((parent ≡ []) × HasNodeAt placed (position ∷ []) × (is_marked placed t tolerance (position ∷ []) ≡ true))
 
 -- children of the helper or of a node of the separator: all loose neighbours on one side of the point, as many as there are
 pub record IsSideRow (placed : List Placed) (t tolerance : ℕ) (parent : List ℕ) (first last : ℕ) : Type 0 where
