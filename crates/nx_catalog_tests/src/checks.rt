@@ -1,6 +1,5 @@
 // What was found beside what was wanted, one function for each kind of value: an assert in a function with a type
 // parameter takes long to be proved, and a call of one that has it takes nearly nothing.
-use nx_records::StoreError;
 use std::process::Abort;
 
 pub fn check_bytes(rt: &impl Abort, found: &[u8], want: &[u8]) {
@@ -13,8 +12,4 @@ pub fn check_count(rt: &impl Abort, found: u32, want: u32) {
 
 pub fn check_is(rt: &impl Abort, found: bool, want: bool) {
     assert_eq!(rt; found, want);
-}
-
-pub fn check_error(rt: &impl Abort, found: Option<StoreError>, want: StoreError) {
-    assert_eq!(rt; found, Some(want));
 }

@@ -4,8 +4,6 @@
 #[cfg(test)]
 mod bytes;
 #[cfg(test)]
-mod changed;
-#[cfg(test)]
 mod checks;
 #[cfg(test)]
 mod made;

@@ -7,8 +7,8 @@ use nx_catalog::Catalog;
 use nx_hold::DocEntry;
 use nx_lists::NoMemory;
 use nx_matrix::{Entry, MatrixError, Rule, Rules};
+use nx_pyx::is_document_name;
 use nx_records::Rid;
-use nx_script::is_document_name;
 use std::alloc::Global;
 use std::process::Abort;
 use std::test::Fail;
@@ -19,6 +19,17 @@ pub const BYTES: [u8; 69] = [
     0, 1, b'a', 0, 0, 0, 2, 0, 0, 0, 0, 0, 7, //
     0, 3, b'b', b'-', b'2', 0, 1, 0, 0, 1, 2, 0, 8, 0, 0, //
     0, 3, b'z', b'z', b'9', 255, 255, 255, 255, 255, 255, 0, 0, 0, 2, //
+    0, 0, 0, 2, //
+    0, 4, b'#', b'd', b'o', b'c', 0, 1, b'r', 1, //
+    0, 1, b'r', 0, 2, b'@', b'x', 2,
+];
+
+/// ... and with the last document's name `b-1`, so that it is the second.
+pub const RENAMED: [u8; 69] = [
+    0, 0, 0, 3, //
+    0, 1, b'a', 0, 0, 0, 2, 0, 0, 0, 0, 0, 7, //
+    0, 3, b'b', b'-', b'1', 255, 255, 255, 255, 255, 255, 0, 0, 0, 2, //
+    0, 3, b'b', b'-', b'2', 0, 1, 0, 0, 1, 2, 0, 8, 0, 0, //
     0, 0, 0, 2, //
     0, 4, b'#', b'd', b'o', b'c', 0, 1, b'r', 1, //
     0, 1, b'r', 0, 2, b'@', b'x', 2,

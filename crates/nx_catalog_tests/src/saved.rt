@@ -1,11 +1,10 @@
 // Catalogs in stores.
-use crate::checks::{check_bytes, check_count, check_error, check_is};
-use crate::made::{BYTES, check, made, put};
+use crate::checks::{check_bytes, check_count, check_is};
+use crate::made::{BYTES, RENAMED, check, made};
 use crate::stores::Store;
 use nx_catalog::Catalog;
-use nx_hold::DocEntry;
 use nx_lists::NoMemory;
-use nx_records::{Rid, StoreError};
+use nx_records::StoreError;
 use std::alloc::Global;
 use std::process::Abort;
 use std::test::Fail;
@@ -80,97 +79,29 @@ fn check_fewer(rt: &impl Abort, fewer: &Catalog) {
     check_is(rt, fewer.find(b"b-2").is_none(), true);
 }
 
-// How a load is refused.
-fn refusal(store: &mut Store, alloc: Global) -> Option<StoreError> {
-    store.load(alloc).err()
-}
-
 #[test]
-fn not_kept(rt: HostRuntime) -> Result<(), Fail> {
+fn renamed_and_loaded(rt: HostRuntime) -> Result<(), Fail> {
     let mut store = Store::create(rt.alloc())?;
-    check_not_kept(&rt, rt.alloc(), &mut store)
+    check_copy(&rt, rt.alloc(), &mut store)
 }
 
-fn check_not_kept(rt: &impl Abort, alloc: Global, store: &mut Store) -> Result<(), Fail> {
-    check_damaged(rt, alloc, store)?;
-    let catalog = made(rt, alloc)?;
-    check_ended(rt, alloc, store, &catalog);
+// A document gets another name. A copy of the catalog from before is as it was.
+fn check_copy(rt: &impl Abort, alloc: Global, store: &mut Store) -> Result<(), Fail> {
+    let mut catalog = made(rt, alloc)?;
+    let before = copied(&catalog)?;
+    store.rename(rt, &mut catalog, b"zz9", b"b-1")?;
+    check(rt, &before)?;
+    check_renamed(rt, alloc, store)
+}
+
+// The same catalog, which promises nothing.
+fn copied(catalog: &Catalog) -> Result<Catalog, NoMemory> {
+    catalog.copied()
+}
+
+fn check_renamed(rt: &impl Abort, alloc: Global, store: &mut Store) -> Result<(), Fail> {
+    store.reopen(alloc)?;
+    let renamed = store.bytes(alloc)?;
+    check_bytes(rt, renamed.as_slice(), &RENAMED);
     Ok(())
-}
-
-fn check_refusal(rt: &impl Abort, alloc: Global, store: &mut Store, want: StoreError) {
-    let found = refusal(store, alloc);
-    check_error(rt, found, want);
-}
-
-fn check_damaged(rt: &impl Abort, alloc: Global, store: &mut Store) -> Result<(), Fail> {
-    store.set_bytes(rt, alloc, &[0, 0, 0, 1, 0, 0, 0, 0])?;
-    check_refusal(rt, alloc, store, StoreError::Damaged { page: 0 });
-    check_is(rt, store.is_ended(), true);
-    Ok(())
-}
-
-fn check_ended(rt: &impl Abort, alloc: Global, store: &mut Store, catalog: &Catalog) {
-    let saved = store.save(catalog);
-    check_error(rt, saved.err(), StoreError::Ended);
-    check_refusal(rt, alloc, store, StoreError::Ended);
-}
-
-// A catalog of so many documents, each on the page of its number.
-fn numbered(rt: &impl Abort, alloc: Global, count: u32) -> Result<Catalog, Fail> {
-    let mut catalog = Catalog::new(alloc);
-    for number in 0..count {
-        put_numbered(rt, alloc, &mut catalog, number)?;
-    }
-    Ok(catalog)
-}
-
-fn name_of(alloc: Global, number: u32) -> Result<String, NoMemory> {
-    Ok(format!(in alloc; "document-{number}")?)
-}
-
-fn put_numbered(
-    rt: &impl Abort,
-    alloc: Global,
-    catalog: &mut Catalog,
-    number: u32,
-) -> Result<(), Fail> {
-    let name = name_of(alloc, number)?;
-    let root = Rid {
-        page: number,
-        slot: 1,
-    };
-    put(rt, catalog, name.as_bytes(), DocEntry { root, nodes: 3 })?;
-    Ok(())
-}
-
-#[test]
-fn many_documents(rt: HostRuntime) -> Result<(), Fail> {
-    let mut store = Store::create(rt.alloc())?;
-    check_many(&rt, rt.alloc(), &mut store)
-}
-
-fn check_many(rt: &impl Abort, alloc: Global, store: &mut Store) -> Result<(), Fail> {
-    keep_numbered(rt, alloc, store)?;
-    let loaded = store.load(alloc)?;
-    check_numbered(rt, &loaded);
-    Ok(())
-}
-
-fn keep_numbered(rt: &impl Abort, alloc: Global, store: &mut Store) -> Result<(), Fail> {
-    let catalog = numbered(rt, alloc, 900)?;
-    store.keep(rt, &catalog)?;
-    Ok(())
-}
-
-fn check_numbered(rt: &impl Abort, loaded: &Catalog) {
-    check_count(rt, loaded.len(), 900);
-    check_is(rt, is_on_page(loaded.find(b"document-899"), 899), true);
-}
-
-fn is_on_page(entry: Option<DocEntry>, page: u32) -> bool {
-    match entry {
-        Some(found) => found.root.page == page,
-        None => false,
-    }
 }

@@ -1,11 +1,10 @@
 // Records with a catalog, over a host in memory. Its methods promise nothing, since a test that knows much
 // is proved slowly.
 use nx_catalog::{Catalog, load_catalog};
-use nx_hold::DocEntry;
 use nx_lists::{List, NoMemory};
 use nx_memory::{Image, MemoryHost};
+use nx_pyx::is_document_name;
 use nx_records::{Records, Settings, StoreError};
-use nx_script::is_document_name;
 use std::alloc::Global;
 use std::process::Abort;
 use std::test::Fail;
@@ -55,24 +54,9 @@ impl Store {
         Ok(())
     }
 
-    pub fn is_ended(&self) -> bool {
-        self.records.is_ended()
-    }
-
     /// The bytes of the catalog.
     pub fn bytes(&mut self, alloc: Global) -> Result<List<u8>, StoreError> {
         self.records.read_catalog(alloc, &mut self.host)
-    }
-
-    /// Makes these the bytes of the catalog, where they are eight or more.
-    pub fn set_bytes(
-        &mut self,
-        rt: &impl Abort,
-        alloc: Global,
-        bytes: &[u8],
-    ) -> Result<(), StoreError> {
-        assert!(rt; bytes.len() >= 8);
-        self.records.set_catalog(alloc, &mut self.host, bytes)
     }
 
     pub fn load(&mut self, alloc: Global) -> Result<Catalog, StoreError> {
@@ -83,19 +67,20 @@ impl Store {
         catalog.save(&mut self.records, &mut self.host)
     }
 
-    /// Puts an entry under a name in a catalog, and in that of the records. Answers how many reads were made.
-    pub fn enter(
+    /// Puts the entry of a document under another name, and commits.
+    pub fn rename(
         &mut self,
         rt: &impl Abort,
         catalog: &mut Catalog,
-        name: &[u8],
-        entry: DocEntry,
-    ) -> Result<u64, StoreError> {
-        assert!(rt; is_document_name(name));
-        assert!(rt; catalog.len() < 1_000);
-        let before = self.host.counts().reads;
-        catalog.save_entry(&mut self.records, &mut self.host, name, entry)?;
-        Ok(self.host.counts().reads.saturating_sub(before))
+        old_name: &[u8],
+        new_name: &[u8],
+    ) -> Result<(), StoreError> {
+        assert!(rt; is_document_name(new_name));
+        assert!(rt; catalog.find(old_name).is_some());
+        assert!(rt; catalog.find(new_name).is_none());
+        catalog.save_renamed(&mut self.records, &mut self.host, old_name, new_name)?;
+        assert!(rt; self.records.log_length() <= 1 << 62);
+        self.records.commit(&mut self.host)
     }
 
     /// Saves the catalog and commits.

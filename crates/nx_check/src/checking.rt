@@ -42,7 +42,7 @@ pub fn check<D: Disk>(alloc: Global, disk: &mut D) -> Result<Verdict, CheckError
         → (tour : Tour) × HasComeToEnd D.Disk disk.new was (D.reads disk.old + (3 * (length was.log / entry_size + 1) + 1) + 2) tour) }
     ensures refused { IfErr result (λ e. NotChecked D.Disk e disk.old disk.new) }
 {
-    match Wal::open(disk, alloc) {
+    match Wal::open_to_read(disk, alloc) {
         Ok(wal) => verdict_of(alloc, wal, disk),
         Err(error) => Err(refusal_of(error)),
     }

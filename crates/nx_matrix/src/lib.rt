@@ -9,7 +9,9 @@ mod error;
 mod label;
 mod matrix;
 mod rule;
+mod rule_labels;
 
 pub use error::MatrixError;
 pub use matrix::Matrix;
 pub use rule::{Entry, LONGEST_LABEL, MOST_RULES, Rule, Rules};
+pub use rule_labels::{is_child_label, is_parent_label};

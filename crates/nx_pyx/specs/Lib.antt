@@ -14,4 +14,5 @@ pub mod Outcome
 pub mod Escape
 pub mod Writer
 pub mod Field
+pub mod DocumentName
 pub mod Path

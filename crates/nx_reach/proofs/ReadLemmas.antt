@@ -8,7 +8,7 @@ use Rattle.std.proofs.lemmas.Bool.Decides.{Decides-eqb, nat_tests}
 use Rattle.std.proofs.lemmas.Slice.Eq.{bytes_eq-Decides}
 use Rattle.nx_tree.specs.Document.{is_name, is_name_byte}
 use Rattle.nx_pyx.specs.Field.{begins_with}
-use Rattle.nx_script.specs.Rule.{is_child_label, is_marked_name}
+use Rattle.nx_matrix.specs.RuleLabels.{is_child_label, is_marked_name}
 use Rattle.nx_reach.specs.declared.step.Step.{Step}
 use Rattle.nx_reach.specs.declared.step.Step.TheVariants.{Child, Below}
 use Rattle.nx_reach.specs.Reach.{label_of}

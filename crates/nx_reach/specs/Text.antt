@@ -1,6 +1,6 @@
 -- Steps as text.
 use Rattle.std.specs.Prelude.{◌≡◌, ℕ, ◌≤◌, Bool, true, false, IsTrue, if◌then◌else◌, List, [], ◌∷◌, ◌++◌, length}
-use Rattle.nx_script.specs.Rule.{is_child_label}
+use Rattle.nx_matrix.specs.RuleLabels.{is_child_label}
 use Rattle.nx_reach.specs.declared.step.Step.{Step}
 use Rattle.nx_reach.specs.declared.step.Step.TheVariants.{Child, Below}
 use Rattle.nx_reach.specs.Reach.{label_of}

@@ -6,7 +6,7 @@ ghost use Rattle.nx_reach.specs.Text.{SaysSteps, SplitsStep, step_of, slashed};
 
 use crate::step::{MOST_STEPS, Step, Steps};
 use nx_lists::{List, NoMemory};
-use nx_script::is_child_label;
+use nx_matrix::is_child_label;
 use nx_tree::Bytes;
 use std::alloc::Global;
 

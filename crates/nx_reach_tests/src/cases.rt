@@ -1,4 +1,4 @@
-// Documents, steps, and the paths that these reach, as `tools/name_steps.py cases 15 30` worked them out from the
+// Documents, steps, and the paths that these reach, as `trials/name_steps.py cases 15 30` worked them out from the
 // definition alone.
 
 pub const CASES: [(&[u8], &[u8], &[u8]); 30] = [

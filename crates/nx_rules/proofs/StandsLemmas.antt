@@ -9,7 +9,7 @@ use Rattle.std.proofs.Common.{T}
 use Rattle.nx_tree.specs.declared.node.Node.{Node}
 use Rattle.nx_tree.specs.Forest.{Empty, Plant, nodes}
 use Rattle.nx_tree.specs.Document.{IsDocument, element_count}
-use Rattle.nx_script.specs.Field.{name_order}
+use Rattle.nx_pyx.specs.DocumentName.{name_order}
 use Rattle.nx_replay.specs.Log.{Pages}
 use Rattle.nx_holdings.specs.Holdings.{times, Link}
 use Rattle.nx_holdings.proofs.TimesLemmas.{times-append}

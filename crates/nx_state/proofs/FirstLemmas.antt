@@ -5,7 +5,7 @@ use Rattle.std.specs.FinMap.{empty, entries, len-entries, len-empty}
 use Rattle.std.proofs.lemmas.List.Elements.{All-nil}
 use Rattle.nx_holdings.specs.declared.header.Settings.{Settings}
 use Rattle.nx_records.specs.Changes.{nothing_held}
-use Rattle.nx_script.specs.Field.{name_order}
+use Rattle.nx_pyx.specs.DocumentName.{name_order}
 use Rattle.nx_hold.specs.Pieces.{IsTidy, held_by}
 use Rattle.nx_hold.proofs.PieceLemmas.{no_value}
 use Rattle.nx_hold.proofs.MapLemmas.{piece_map}

@@ -7,7 +7,7 @@ use Rattle.nx_matrix.specs.declared.rule.Rule.{Rule}
 use Rattle.nx_records.specs.Words.{Settings}
 use Rattle.nx_cuts.specs.Cut.{CutTree, forest, tree_of}
 use Rattle.nx_hold.specs.Contents.{tree_pages}
-use Rattle.nx_script.specs.Field.{name_order}
+use Rattle.nx_pyx.specs.DocumentName.{name_order}
 
 -- Its settings, the rules of its matrix in their order, and its documents by their names, each with its intervals drawn in.
 pub record State : Type 0 where

@@ -5,7 +5,7 @@ use Rattle.std.proofs.lemmas.Result.{err_from_is_err_and}
 use Rattle.std.proofs.lemmas.Map.Iter.{rest_more, rest_all}
 use Rattle.nx_host.specs.Disk.{Image}
 use Rattle.nx_host.proofs.DiskLemmas.{none_still, still_then}
-use Rattle.nx_script.specs.Field.{by_bytes}
+use Rattle.nx_pyx.specs.DocumentName.{by_bytes}
 use Rattle.nx_catalog.specs.Catalog.{Contents}
 use Rattle.nx_rules.specs.Tour.{Visit, Tour}
 use Rattle.nx_check.specs.declared.error.Stop.{Stop}

@@ -1,7 +1,7 @@
 use Rattle.std.specs.Prelude.{◌≡◌, ℕ, List, [], map}
 use Rattle.nx_host.specs.Disk.{Image}
 use Rattle.nx_host.specs.Still.{IsStill}
-use Rattle.nx_script.specs.Field.{by_bytes}
+use Rattle.nx_pyx.specs.DocumentName.{by_bytes}
 use Rattle.nx_rules.specs.Tour.{Visit, Tour}
 use Rattle.nx_check.specs.Between.{IsBetweenDocuments}
 use Rattle.nx_check.proofs.checking.walk_documents.Given as goal
