@@ -11,8 +11,8 @@ use Rattle.std.specs.FinMap.{empty, same_entries_map, len-entries, len-empty, en
 use Rattle.std.proofs.lemmas.Bool.{ltb-false, le-ltb}
 use Rattle.std.proofs.lemmas.List.{append-nil, length-map, nil_from_length}
 use Rattle.std.proofs.lemmas.List.Elements.{recursion_from_All, All-from_recursion}
-use Rattle.nx_script.specs.Field.{name_order, vector_order, by_bytes}
-use Rattle.nx_script.specs.Rule.{HasLabels}
+use Rattle.nx_pyx.specs.DocumentName.{name_order, vector_order, by_bytes}
+use Rattle.nx_matrix.specs.RuleLabels.{HasLabels}
 use Rattle.nx_matrix.specs.declared.rule.Rule.{Rule}
 use Rattle.nx_matrix.specs.declared.rule.Entry.TheVariants.{Free}
 use Rattle.nx_matrix.specs.Rules.{AreRules, pair_cmp, pair_of, most_rules}

@@ -6,7 +6,7 @@ use Rattle.std.specs.Ordering.{match_ordering, ordering_reverse}
 use Rattle.std.specs.declared.cmp.Ordering.TheVariants.{Less, Greater}
 use Rattle.std.specs.Cmp.Lexicographic.{nat_list_cmp_total}
 use Rattle.std.specs.BTreeMap.{insert_entry}
-use Rattle.nx_script.specs.Field.{name_order, is_document_name, vector_order, by_bytes}
+use Rattle.nx_pyx.specs.DocumentName.{name_order, is_document_name, vector_order, by_bytes}
 use Rattle.nx_hold.specs.declared.entry.DocEntry.{DocEntry}
 use Rattle.nx_catalog.specs.Catalog.{Document, with_length, place_bytes, document_bytes, CanBeKept}
 use Rattle.nx_catalog.specs.Reading.{◌>>=◌, counted_at, place_at, document_at, documents_at}

@@ -4,7 +4,7 @@ use Rattle.std.specs.Prelude.{◌⊎◌, All, is_some, if◌then◌else◌, slic
 use Rattle.std.specs.Global.{Vec}
 use Rattle.std.specs.List.{AllByRecursion}
 use Rattle.std.specs.List.Sorted.{IsStrictlySortedBy}
-use Rattle.nx_script.specs.Field.{name_order, vector_order, by_bytes}
+use Rattle.nx_pyx.specs.DocumentName.{name_order, vector_order, by_bytes}
 use Rattle.std.specs.declared.cmp.Ordering.TheVariants.{Less, Equal, Greater}
 use Rattle.std.specs.Ordering.{match_ordering}
 use Rattle.std.specs.Map.{remove_entry, set_value, keys_of}
@@ -18,7 +18,7 @@ use Rattle.nx_matrix.specs.declared.rule.Rule.{Rule}
 use Rattle.nx_hold.specs.declared.entry.DocEntry.{DocEntry}
 use Rattle.nx_catalog.specs.NameMap.{map_in}
 use Rattle.nx_matrix.specs.Rules.{AreRules}
-use Rattle.nx_script.specs.Rule.{HasLabels}
+use Rattle.nx_matrix.specs.RuleLabels.{HasLabels}
 use Rattle.nx_catalog.specs.Catalog.{Contents, Document, CanBeKept, IsCatalog, catalog_bytes, listed_bytes}
 use Rattle.nx_catalog.specs.Inside.{AreDocumentEntries}
 use Rattle.nx_catalog.proofs.NameMap.{entries-map_in, get-map_in, value_of}
@@ -162,6 +162,16 @@ room_left {contents} {documents} s name key n old room same is more = elim room 
     by_found : (b : Bool) → n ≡ btree_map_len documents + (if b then 0 else 1) → n ≤ btree_map_len documents + 1
     by_found true e = omega arith
     by_found false e = omega arith
+
+-- ... and so there is where one was taken away
+pub room_again : (all left new : ℕ) (entry : DocEntry) (taken there : Option DocEntry) → taken ≡ Some entry → left + (if is_some taken then 1 else 0) ≡ all → new ≡ left + (if is_some there then 0 else 1) → all < 4294967296 → new < 4294967296
+room_again all left new entry taken there is fewer more few =
+    let one : left + 1 ≡ all = ap (λ (o : Option DocEntry). left + (if is_some o then 1 else 0)) (sym is) ∙ fewer in
+    by_there there more one
+  where
+    by_there : (o : Option DocEntry) → new ≡ left + (if is_some o then 0 else 1) → left + 1 ≡ all → new < 4294967296
+    by_there None e one = omega (arith, e, one, few)
+    by_there (Some x) e one = omega (arith, e, one, few)
 
 each : (es : List Kept) → AllByRecursion CanBeKept (by_bytes es) → AllByRecursion (λ (e : Kept). CanBeKept (e.0.items, e.1)) es
 each [] h = tt

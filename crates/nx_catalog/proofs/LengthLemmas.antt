@@ -2,6 +2,7 @@
 use Rattle.std.proofs.Common.{◌≡◌, ℕ, ◌+◌, ◌*◌, ◌≤◌, true, false, cond, List, [], ◌∷◌, map, length, Option, Some, None, refl, sym, ap, subst, ◌∙◌, arith, length-append, inl, inr, ⊎_elim}
 use Rattle.std.specs.Prelude.{◌⊎◌, flat_map, is_some}
 use Rattle.std.specs.List.{AllByRecursion, sum_by}
+use Rattle.std.specs.Option.{option_map_or}
 use Rattle.std.specs.Ordering.{is_eq, eq_by_cmp}
 use Rattle.std.specs.Cmp.{tied_itself}
 use Rattle.std.specs.declared.cmp.Ordering.TheVariants.{Less, Equal, Greater}
@@ -11,12 +12,12 @@ use Rattle.std.specs.FinMap.Entries.{by_order}
 use Rattle.std.proofs.lemmas.Bool.{cases_Bool, cond-true, cond-false}
 use Rattle.std.proofs.lemmas.List.Elements.{recursion_from_All}
 use Rattle.std.proofs.lemmas.List.Sums.{sum_by-cons}
-use Rattle.nx_script.specs.Field.{name_order}
+use Rattle.nx_pyx.specs.DocumentName.{name_order}
 use Rattle.nx_hold.specs.declared.entry.DocEntry.{DocEntry}
 use Rattle.nx_matrix.specs.declared.rule.Rule.{Rule}
 use Rattle.nx_matrix.specs.Rules.{IsLabel, pair_of}
 use Rattle.nx_matrix.proofs.OrderLemmas.{Pair}
-use Rattle.nx_catalog.specs.Catalog.{Entries, Contents, Document, document_bytes, rule_bytes, listed_bytes, catalog_bytes, CanBeKept, IsCatalog}
+use Rattle.nx_catalog.specs.Catalog.{Entries, Contents, Document, entries_renamed, document_bytes, rule_bytes, listed_bytes, catalog_bytes, CanBeKept, IsCatalog}
 use Rattle.nx_catalog.specs.Laws.{catalog_size}
 use Rattle.nx_catalog.proofs.InsideLemmas.{spelled}
 use Rattle.nx_catalog.proofs.NameLemmas.{name_short}
@@ -170,13 +171,49 @@ remove_absent documents name absent = one_map _ _ (λ q. get-remove nat_list_cmp
     none_in None e = refl
     none_in (Some entry) e = absurd (cc)
 
+taken_absent : (documents : Entries) (name : List ℕ) → contains_key (remove documents name) name ≡ false
+taken_absent documents name = ap is_some (get-remove nat_list_cmp_total documents name name ∙ cond-true _ None (get documents name) (itself name))
+
 pub length_less : (documents : Entries) (rules : List Rule) (name : List ℕ) → contains_key documents name ≡ true → catalog_size (remove documents name) rules + (12 + length name) ≡ catalog_size documents rules
 length_less documents rules name there = by_entry (get documents name) refl there
   where
-    gone : contains_key (remove documents name) name ≡ false
-    gone = ap is_some (get-remove nat_list_cmp_total documents name name ∙ cond-true _ None (get documents name) (itself name))
-
     by_entry : (o : Option DocEntry) → get documents name ≡ o → is_some o ≡ true → catalog_size (remove documents name) rules + (12 + length name) ≡ catalog_size documents rules
     by_entry None e some = absurd (cc)
     by_entry (Some entry) e some =
-        sym (length_new (remove documents name) rules name entry gone) ∙ ap (λ (ds : Entries). catalog_size ds rules) (put_back documents name entry e)
+        sym (length_new (remove documents name) rules name entry (taken_absent documents name)) ∙ ap (λ (ds : Entries). catalog_size ds rules) (put_back documents name entry e)
+
+-- ---- a document under another name
+
+-- an entry that is there
+pub renamed_there : (documents : Entries) (old_name new_name : List ℕ) (entry : DocEntry) → get documents old_name ≡ Some entry → entries_renamed documents old_name new_name ≡ insert (remove documents old_name) new_name entry
+renamed_there documents old_name new_name entry there = ap (λ (o : Option DocEntry). option_map_or (λ (e : DocEntry). insert (remove documents old_name) new_name e) o documents) there
+
+-- ... and one that isn't
+pub renamed_absent : (documents : Entries) (old_name new_name : List ℕ) → get documents old_name ≡ None → remove documents old_name ≡ entries_renamed documents old_name new_name
+renamed_absent documents old_name new_name none =
+    remove_absent documents old_name (ap is_some none) ∙ sym (ap (λ (o : Option DocEntry). option_map_or (λ (e : DocEntry). insert (remove documents old_name) new_name e) o documents) none)
+
+module _ (documents : Entries) (rules : List Rule) (old_name new_name : List ℕ) where
+  new_absent : contains_key documents new_name ≡ false → contains_key (remove documents old_name) new_name ≡ false
+  new_absent absent =
+      ap is_some (get-remove nat_list_cmp_total documents old_name new_name)
+      ∙ (elim (eq_by_cmp name_order new_name old_name) as (λ b. is_some (cond b None (get documents new_name)) ≡ false) [ true ↦ refl | false ↦ absent ])
+
+  pub length_renamed : contains_key documents old_name ≡ true → contains_key documents new_name ≡ false →
+      (catalog_size (entries_renamed documents old_name new_name) rules + length old_name ≡ catalog_size documents rules + length new_name) × (length (entries (entries_renamed documents old_name new_name)) ≡ length (entries documents))
+  length_renamed there absent = by_entry (get documents old_name) refl there
+    where
+      left : Entries
+      left = remove documents old_name
+
+      by_entry : (o : Option DocEntry) → get documents old_name ≡ o → is_some o ≡ true → (catalog_size (entries_renamed documents old_name new_name) rules + length old_name ≡ catalog_size documents rules + length new_name)
+          × (length (entries (entries_renamed documents old_name new_name)) ≡ length (entries documents))
+      by_entry None e some = absurd (cc)
+      by_entry (Some entry) e some =
+          let renamed = renamed_there documents old_name new_name entry e in
+          let size = ap (λ (ds : Entries). catalog_size ds rules) renamed in
+          let more = length_new left rules new_name entry (new_absent absent) in
+          let less = length_less documents rules old_name there in
+          let number = ap (λ (ds : Entries). length (entries ds)) renamed ∙ insert_size left new_name entry ∙ cond-false _ _ _ (new_absent absent) in
+          let before = sym (ap (λ (ds : Entries). length (entries ds)) (put_back documents old_name entry e)) ∙ insert_size left old_name entry ∙ cond-false _ _ _ (taken_absent documents old_name) in
+          (omega (arith, size, more, less), number ∙ sym before)

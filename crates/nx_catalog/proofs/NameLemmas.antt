@@ -5,8 +5,8 @@ use Rattle.std.specs.Str.{bytes_eq}
 use Rattle.nx_tree.specs.Document.{is_name}
 use Rattle.std.proofs.lemmas.Bool.{leb-true}
 use Rattle.std.specs.declared.cmp.Ordering.TheVariants.{Less}
-use Rattle.nx_script.specs.Field.{name_order, is_document_name}
-use Rattle.nx_script.specs.Rule.{is_parent_label, is_child_label, is_marked_name, HasLabels}
+use Rattle.nx_pyx.specs.DocumentName.{name_order, is_document_name}
+use Rattle.nx_matrix.specs.RuleLabels.{is_parent_label, is_child_label, is_marked_name, HasLabels}
 use Rattle.nx_matrix.specs.declared.rule.Rule.{Rule}
 use Rattle.nx_matrix.specs.Rules.{IsLabel, longest_label, pair_cmp}
 

@@ -15,7 +15,7 @@ use Rattle.std.proofs.lemmas.Bool.{cases_Bool, cond-true, cond-false}
 use Rattle.std.proofs.lemmas.Map.Keys.{sorted_head, sorted_tail}
 use Rattle.std.proofs.lemmas.Map.Lookups.{exact_bytes}
 use Rattle.std.proofs.lemmas.Map.Views.{tells_apart}
-use Rattle.nx_script.specs.Field.{name_order, vector_order, by_bytes}
+use Rattle.nx_pyx.specs.DocumentName.{name_order, vector_order, by_bytes}
 use Rattle.nx_catalog.specs.NameMap.{map_in}
 
 both : (a b : Bool) → T a → T b → T (a && b)

@@ -1,7 +1,6 @@
 -- Where the entries of documents stand in the bytes of a catalog.
 use Rattle.std.proofs.Common.{◌≡◌, ◌⊎◌, ℕ, ◌+◌, ◌*◌, ◌<◌, ◌≤◌, Bool, true, false, cond, List, [], ◌∷◌, ◌++◌, map, length, Option, Some, None, Ordering, Less, Equal, Greater, is_eq, refl, sym, ap, ap₂, subst, ◌∙◌, arith, length-append, inl, inr}
 use Rattle.std.specs.Prelude.{◌&&◌, T, All, IfSome, flat_map, is_some}
-use Rattle.std.specs.List.{AllByRecursion}
 use Rattle.std.specs.Global.{Vec}
 use Rattle.std.specs.Map.{set_value, lookup}
 use Rattle.std.specs.Iterator.{Yields}
@@ -10,14 +9,14 @@ use Rattle.std.specs.BTreeMap.{BTreeMap, UpdatesBy, get_by}
 use Rattle.std.specs.Ordering.{is_lt, eq_by_cmp, ordering_reverse}
 use Rattle.std.specs.Cmp.{tied_itself}
 use Rattle.std.specs.Cmp.Lexicographic.{nat_list_cmp_total}
-use Rattle.std.specs.FinMap.{FinMap, find, put, is_sorted, entries, insert, contains_key, get-entries, entries-insert, entries_sorted}
+use Rattle.std.specs.FinMap.{find, put, is_sorted, entries, insert, contains_key, get-entries, entries-insert, entries_sorted}
 use Rattle.std.specs.FinMap.Entries.{by_order, below_all}
 use Rattle.std.proofs.lemmas.Bool.{cases_Bool, cond-true, cond-false}
 use Rattle.std.proofs.lemmas.List.{append_assoc, append-nil, map-append, length-map}
 use Rattle.std.proofs.lemmas.Map.Iter.{rest_so_far, rest_more}
 use Rattle.std.proofs.lemmas.Map.Views.{All-turn}
 use Rattle.std.proofs.lemmas.List.Elements.{recursion_from_All}
-use Rattle.nx_script.specs.Field.{name_order, vector_order, by_bytes}
+use Rattle.nx_pyx.specs.DocumentName.{name_order, vector_order, by_bytes}
 use Rattle.nx_piece.specs.Encoding.{four_bytes}
 use Rattle.nx_hold.specs.declared.entry.DocEntry.{DocEntry}
 use Rattle.nx_matrix.specs.declared.rule.Rule.{Rule}

@@ -12,7 +12,7 @@ use Rattle.std.specs.FinMap.{FinMap, find, is_sorted, from_sorted, get, insert a
 use Rattle.std.specs.FinMap.Entries.{same_entries, below_all}
 use Rattle.std.proofs.lemmas.List.{take_all, drop_all, length-map}
 use Rattle.std.proofs.lemmas.List.Elements.{recursion_from_All, All-from_recursion}
-use Rattle.nx_script.specs.Rule.{HasLabels, is_parent_label, is_child_label}
+use Rattle.nx_matrix.specs.RuleLabels.{HasLabels, is_parent_label, is_child_label}
 use Rattle.nx_matrix.specs.declared.rule.Entry.{Entry}
 use Rattle.nx_matrix.specs.declared.rule.Entry.TheVariants.{Standalone, Cluster, Free}
 use Rattle.nx_matrix.specs.declared.rule.Rule.{Rule}

@@ -1,5 +1,5 @@
 -- Changes of a catalog: what is put back, and the rules that are made.
-use Rattle.std.proofs.Common.{◌≡◌, ◌≢◌, ℕ, suc, ◌+◌, ◌<◌, ◌≤◌, Bool, true, false, cond, ◌&&◌, List, [], ◌∷◌, ◌++◌, map, length, take, drop, Option, Some, None, Less, Equal, Greater, is_eq, refl, sym, ap, ap₂, subst, ◌∙◌, arith}
+use Rattle.std.proofs.Common.{◌≡◌, ◌≢◌, ℕ, suc, ◌+◌, ◌<◌, ◌≤◌, Bool, true, false, cond, ◌&&◌, List, [], ◌∷◌, ◌++◌, length, take, drop, Some, None, Less, Equal, Greater, is_eq, refl, sym, ap, ap₂, subst, ◌∙◌, arith}
 use Rattle.std.specs.Prelude.{All, AllPairs, IsTrue, if◌then◌else◌, get_or}
 use Rattle.std.specs.List.{AllByRecursion, find as list_find, AllZip}
 use Rattle.std.specs.Option.{option_map_or, is_some}
@@ -13,8 +13,8 @@ use Rattle.std.proofs.Math.Seq.{take-suc, drop-cons}
 use Rattle.std.proofs.lemmas.Slice.Eq.{bytes_eq-Decides}
 use Rattle.std.proofs.lemmas.List.{take-append-drop, take_all}
 use Rattle.std.proofs.lemmas.List.Elements.{recursion_from_All, All-from_recursion}
-use Rattle.nx_script.specs.Field.{name_order, by_bytes}
-use Rattle.nx_script.specs.Rule.{HasLabels, is_parent_label, is_child_label}
+use Rattle.nx_pyx.specs.DocumentName.{name_order, by_bytes}
+use Rattle.nx_matrix.specs.RuleLabels.{HasLabels, is_parent_label, is_child_label}
 use Rattle.nx_matrix.specs.declared.rule.Entry.{Entry}
 use Rattle.nx_matrix.specs.declared.rule.Entry.TheVariants.{Free}
 use Rattle.nx_matrix.specs.declared.rule.Rule.{Rule}

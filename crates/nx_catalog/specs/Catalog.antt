@@ -1,8 +1,9 @@
 -- What a catalog says, and its bytes.
 use Rattle.std.specs.Prelude.{◌≡◌, ℕ, ◌<◌, List, [], ◌∷◌, ◌++◌, length, flat_map, All, IsTrue}
-use Rattle.std.specs.FinMap.{FinMap, entries}
-use Rattle.nx_script.specs.Field.{name_order, is_document_name}
-use Rattle.nx_script.specs.Rule.{HasLabels}
+use Rattle.std.specs.Option.{option_map_or}
+use Rattle.std.specs.FinMap.{FinMap, entries, get, insert, remove}
+use Rattle.nx_pyx.specs.DocumentName.{name_order, is_document_name}
+use Rattle.nx_matrix.specs.RuleLabels.{HasLabels}
 use Rattle.nx_matrix.specs.declared.rule.Entry.{Entry}
 use Rattle.nx_matrix.specs.declared.rule.Entry.TheVariants.{Standalone, Cluster, Free}
 use Rattle.nx_matrix.specs.declared.rule.Rule.{Rule}
@@ -17,6 +18,10 @@ Entries = FinMap name_order DocEntry
 -- a document's name, and where it stands
 abbrev pub Document : Type 0
 Document = List ℕ × DocEntry
+
+-- the entry of the old name stands under the new one; they are as they were where there is none
+abbrev pub entries_renamed : Entries → (old_name new_name : List ℕ) → Entries
+entries_renamed documents old_name new_name = option_map_or (λ entry. insert (remove documents old_name) new_name entry) (get documents old_name) documents
 
 -- the documents and the rules of a store
 pub record Contents : Type 0 where

@@ -5,7 +5,7 @@ use Rattle.std.specs.BTreeMap.{BTreeMap, IsOrdered, btree_map_len, get_by}
 use Rattle.nx_hold.specs.declared.entry.DocEntry.{DocEntry}
 use Rattle.nx_matrix.specs.declared.rule.Rule.{Rule}
 use Rattle.nx_matrix.specs.Rules.{AreRules}
-use Rattle.nx_script.specs.Field.{name_order, vector_order, by_bytes}
+use Rattle.nx_pyx.specs.DocumentName.{name_order, vector_order, by_bytes}
 use Rattle.nx_catalog.specs.Catalog.{Document, CanBeKept, document_bytes}
 
 -- the names are in order, and documents may have them

@@ -6,7 +6,7 @@ use Rattle.nx_hold.specs.declared.entry.DocEntry.{DocEntry}
 use Rattle.nx_matrix.specs.declared.rule.Entry.{Entry}
 use Rattle.nx_matrix.specs.declared.rule.Rule.{Rule}
 use Rattle.nx_matrix.specs.Rules.{AreRules, SetsEntry, pair_of}
-use Rattle.nx_catalog.specs.Catalog.{Entries, Contents, catalog_bytes, IsCatalog}
+use Rattle.nx_catalog.specs.Catalog.{Entries, Contents, entries_renamed, catalog_bytes, IsCatalog}
 
 -- the bytes of catalogs are told apart
 abbrev pub OneCatalog : Type 0
@@ -41,6 +41,12 @@ abbrev pub RemoveShortens : Type 0
 RemoveShortens = (documents : Entries) (rules : List Rule) (name : List ℕ) →
     (contains_key documents name ≡ true → catalog_size (remove documents name) rules + (12 + length name) ≡ catalog_size documents rules)
     × (contains_key documents name ≡ false → remove documents name ≡ documents)
+
+-- a document under another name takes as many bytes more or fewer as that name has, and there are as many documents
+abbrev pub RenameLengthens : Type 0
+RenameLengthens = (documents : Entries) (rules : List Rule) (old_name new_name : List ℕ) → contains_key documents old_name ≡ true → contains_key documents new_name ≡ false →
+    (catalog_size (entries_renamed documents old_name new_name) rules + length old_name ≡ catalog_size documents rules + length new_name)
+    × (length (entries (entries_renamed documents old_name new_name)) ≡ length (entries documents))
 
 -- where the entry of one pair is made, there is at most one rule more
 abbrev pub RuleAdds : Type 0

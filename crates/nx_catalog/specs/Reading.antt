@@ -3,8 +3,8 @@ use Rattle.std.specs.Prelude.{◌≡◌, ℕ, zero, suc, ◌&&◌, nat_lt, if◌
 use Rattle.std.specs.Int.{Width, w16, w32, byte_len, from_be_bytes}
 use Rattle.std.specs.declared.cmp.Ordering.{Ordering}
 use Rattle.std.specs.Ordering.{is_lt}
-use Rattle.nx_script.specs.Field.{name_order, is_document_name}
-use Rattle.nx_script.specs.Rule.{is_parent_label, is_child_label}
+use Rattle.nx_pyx.specs.DocumentName.{name_order, is_document_name}
+use Rattle.nx_matrix.specs.RuleLabels.{is_parent_label, is_child_label}
 use Rattle.nx_matrix.specs.declared.rule.Entry.{Entry}
 use Rattle.nx_matrix.specs.declared.rule.Entry.TheVariants.{Standalone, Cluster}
 use Rattle.nx_matrix.specs.declared.rule.Rule.{Rule}

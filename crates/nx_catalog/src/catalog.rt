@@ -1,9 +1,10 @@
 // The documents and the rules of a store, in memory.
-ghost use Rattle.std.specs.Prelude.{◌≡◌, ◌⊎◌, ◌<◌, ◌≤◌, [], true, length, IsTrue, Some, MatchOption, OnOk, OnErr, slice_get};
+ghost use Rattle.std.specs.Prelude.{◌≡◌, ◌⊎◌, ◌<◌, ◌≤◌, [], true, length, IsTrue, Some, MatchOption, IfOk, OnOk, OnErr, slice_get};
 ghost use Rattle.std.specs.Borrow.{sem};
 ghost use Rattle.std.specs.FinMap.{empty, entries, get, insert, remove, contains_key};
-ghost use Rattle.nx_script.specs.Field.{is_document_name, by_bytes};
+ghost use Rattle.nx_pyx.specs.DocumentName.{is_document_name, by_bytes};
 
+use crate::saving::{copied, copied_documents};
 use nx_hold::DocEntry;
 use nx_lists::NoMemory;
 use nx_matrix::Matrix;
@@ -28,7 +29,7 @@ impl Model for Catalog {
     ghost use Rattle.nx_catalog.specs.Codes.{contents_code};
     ghost use Rattle.nx_catalog.specs.NameMap.{map_in};
     ghost use Rattle.nx_catalog.specs.Inside.{AreDocumentEntries, ArePlaces};
-    ghost use Rattle.nx_script.specs.Field.{by_bytes};
+    ghost use Rattle.nx_pyx.specs.DocumentName.{by_bytes};
 
     ghost Value = { Contents };
 
@@ -59,6 +60,22 @@ impl Catalog {
             matrix: Matrix::new(alloc),
             places: BTreeMap::new(alloc),
         }
+    }
+
+    /// The same catalog once more. It reads no page.
+    ///
+    /// Errors: `NoMemory`.
+    pub fn copied(&self) -> Result<Catalog, NoMemory>
+        ensures { IfOk result (λ copy. copy ≡ self.now) }
+    {
+        let matrix = copied(self.alloc, &self.matrix)?;
+        let documents = copied_documents(&self.documents)?;
+        Ok(Catalog {
+            alloc: self.alloc,
+            documents,
+            matrix,
+            places: BTreeMap::new(self.alloc),
+        })
     }
 
     /// The number of documents. It takes no memory.

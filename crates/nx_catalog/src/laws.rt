@@ -1,5 +1,5 @@
 //! What holds of catalogs and their bytes.
-ghost use Rattle.nx_catalog.specs.Laws.{OneCatalog, FirstCatalog, CatalogIsShort, LengthByNames, SetLengthens, RemoveShortens, RuleAdds};
+ghost use Rattle.nx_catalog.specs.Laws.{OneCatalog, FirstCatalog, CatalogIsShort, LengthByNames, SetLengthens, RemoveShortens, RenameLengthens, RuleAdds};
 
 /// No two catalogs have the same bytes.
 pub fn one_catalog()
@@ -31,6 +31,12 @@ pub fn set_lengthens()
 /// takes nothing.
 pub fn remove_shortens()
     ensures { RemoveShortens }
+{}
+
+/// A document under another name, which no document has, takes as many bytes more or fewer as that name
+/// has, and there are as many documents as before.
+pub fn rename_lengthens()
+    ensures { RenameLengthens }
 {}
 
 /// Where the entry of one pair of labels is made, there is at most one rule more.

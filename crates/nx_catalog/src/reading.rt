@@ -6,15 +6,15 @@ ghost use Rattle.std.specs.Ordering.{is_lt};
 ghost use Rattle.std.specs.BTreeMap.{IsOrdered};
 ghost use Rattle.nx_matrix.specs.Rules.{pair_cmp, most_rules};
 ghost use Rattle.nx_catalog.specs.Catalog.{Contents, IsCatalog};
-ghost use Rattle.nx_script.specs.Field.{vector_order, by_bytes};
+ghost use Rattle.nx_pyx.specs.DocumentName.{vector_order, by_bytes};
 ghost use Rattle.nx_catalog.specs.Reading.{IsReadAs, leading_number, counted_at, place_at, document_at, documents_at, all_documents_at, entry_at, rule_at, rules_at, all_rules_at};
 
 use crate::{Catalog, Named};
 use nx_hold::DocEntry;
 use nx_lists::NoMemory;
-use nx_matrix::{Entry, MOST_RULES, Matrix};
+use nx_matrix::{Entry, MOST_RULES, Matrix, is_child_label, is_parent_label};
+use nx_pyx::is_document_name;
 use nx_records::Rid;
-use nx_script::{is_child_label, is_document_name, is_parent_label};
 use std::alloc::Global;
 use std::cmp::Ordering;
 use std::collections::BTreeMap;

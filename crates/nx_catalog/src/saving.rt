@@ -5,12 +5,12 @@ ghost use Rattle.nx_host.specs.Still.{IsStill};
 ghost use Rattle.nx_records.specs.Records.{KeepsSaved, ComesTo, HasChanges, has_ended};
 ghost use Rattle.nx_records.specs.Changes.{SetsCatalog, catalog_needs};
 ghost use Rattle.nx_records.specs.Refusals.{NotChanged, NotStored, RunsOn, EndNow};
-ghost use Rattle.nx_script.specs.Field.{is_document_name, by_bytes};
-ghost use Rattle.nx_script.specs.Rule.{HasLabels};
+ghost use Rattle.nx_pyx.specs.DocumentName.{is_document_name, by_bytes};
+ghost use Rattle.nx_matrix.specs.RuleLabels.{HasLabels};
 ghost use Rattle.nx_hold.specs.declared.entry.DocEntry.{DocEntry};
 ghost use Rattle.nx_catalog.specs.NameMap.{map_in};
 ghost use Rattle.nx_catalog.specs.Inside.{AreDocumentEntries, names_of, IsPlaceOf, HavePlaces};
-ghost use Rattle.nx_catalog.specs.Catalog.{Entries, IsCatalog, catalog_bytes};
+ghost use Rattle.nx_catalog.specs.Catalog.{Entries, entries_renamed, IsCatalog, catalog_bytes};
 ghost use Rattle.nx_catalog.specs.Saving.{SavesEntry, MakesRule, NotRuled};
 ghost use Rattle.nx_matrix.specs.Rules.{AreRules};
 
@@ -208,6 +208,38 @@ impl Catalog {
         }
     }
 
+    /// Puts the entry of a document under another name, and makes this the catalog of the records. There is a
+    /// document of the old name; a document may have the new name, and none has it. It goes over all documents.
+    ///
+    /// Errors: those of `save` at the new catalog. The catalog is as it was then.
+    pub fn save_renamed<D: Disk>(
+        &mut self,
+        records: &mut Records,
+        disk: &mut D,
+        old_name: &[u8],
+        new_name: &[u8],
+    ) -> Result<(), StoreError>
+        requires there { contains_key self.old.documents old_name.now ≡ true }
+        requires named { IsTrue (is_document_name new_name.now) }
+        requires new { contains_key self.old.documents new_name.now ≡ false }
+        ensures still { IsStill D.Disk disk.old disk.new }
+        ensures documents { OnOk result (self.new.documents ≡ entries_renamed self.old.documents old_name.now new_name.now) }
+        ensures rules { self.new.rules ≡ self.old.rules }
+        ensures ok { OnOk result (ComesTo D.Disk records.old records.new disk.old disk.new (λ was now. SetsCatalog (catalog_bytes self.new) was now)) }
+        ensures keeps { OnOk result (RunsOn records.old records.new × KeepsSaved D.Disk records.old records.new disk.old disk.new × HasChanges records.new) }
+        ensures form { OnOk result (All HasLabels self.old.rules → IsCatalog (catalog_bytes self.new) self.new) }
+        ensures err { OnErr result (self.new ≡ self.old) }
+        ensures refused { IfErr result (λ e. NotStored D.Disk (λ was. catalog_needs (catalog_bytes (record { documents = entries_renamed self.old.documents old_name.now new_name.now; rules = self.old.rules })) was) (λ was. ⊥) 0 e records.old records.new disk.old disk.new) }
+    {
+        if records.is_ended() {
+            return Err(StoreError::Ended);
+        }
+        let Ok(documents) = renamed(self.alloc, &self.documents, old_name, new_name) else {
+            return Err(StoreError::Memory);
+        };
+        self.save_documents(records, disk, documents)
+    }
+
     // Saves the catalog with these documents, which it has then; where this fails it is as it was.
     fn save_documents<D: Disk>(
         &mut self,
@@ -344,13 +376,46 @@ fn others(
     ensures are { IfOk result (λ left. AreDocumentEntries left) }
     ensures left { IfOk result (λ left. map_in left ≡ remove (map_in documents.now) name.now) }
 {
-    let mut left = documents.clone()?;
+    let mut left = copied_documents(documents)?;
     let _ = left.remove(name);
     Ok(left)
 }
 
+// The documents, with the entry of the old name under the new one.
+fn renamed(
+    alloc: Global,
+    documents: &BTreeMap<Vec<u8>, DocEntry>,
+    old_name: &[u8],
+    new_name: &[u8],
+) -> Result<BTreeMap<Vec<u8>, DocEntry>, NoMemory>
+    requires documents { AreDocumentEntries documents.now }
+    requires named { IsTrue (is_document_name new_name.now) }
+    ensures are { IfOk result (λ moved. AreDocumentEntries moved) }
+    ensures moved { IfOk result (λ moved. map_in moved ≡ entries_renamed (map_in documents.now) old_name.now new_name.now) }
+{
+    let mut moved = copied_documents(documents)?;
+    let Some(entry) = moved.remove(old_name) else {
+        return Ok(moved);
+    };
+    numbers_fit(entry.root.page, entry.root.slot, entry.nodes);
+    let key = Vec::from_slice(alloc, new_name)?;
+    moved.insert(key, entry)?;
+    Ok(moved)
+}
+
+// The same documents.
+pub(crate) fn copied_documents(
+    documents: &BTreeMap<Vec<u8>, DocEntry>,
+) -> Result<BTreeMap<Vec<u8>, DocEntry>, NoMemory>
+    requires { AreDocumentEntries documents.now }
+    ensures are { IfOk result (λ copy. AreDocumentEntries copy) }
+    ensures same { IfOk result (λ copy. map_in copy ≡ map_in documents.now) }
+{
+    Ok(documents.clone()?)
+}
+
 // The same rules.
-fn copied(alloc: Global, matrix: &Matrix) -> Result<Matrix, NoMemory>
+pub(crate) fn copied(alloc: Global, matrix: &Matrix) -> Result<Matrix, NoMemory>
     ensures { IfOk result (λ copy. copy ≡ matrix.now) }
 {
     let Ok(rules) = matrix.rules() else {

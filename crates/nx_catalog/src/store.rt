@@ -5,7 +5,7 @@ ghost use Rattle.nx_records.specs.Words.{Held, chain_count};
 ghost use Rattle.nx_records.specs.Records.{StandsFor, KeepsSaved, LeavesRecords, ComesTo, HasChanges, has_ended, catalog_length_of};
 ghost use Rattle.nx_records.specs.Changes.{SetsCatalog, catalog_needs};
 ghost use Rattle.nx_records.specs.Refusals.{NotRead, NotStored, RunsOn, EndNow};
-ghost use Rattle.nx_script.specs.Rule.{HasLabels};
+ghost use Rattle.nx_matrix.specs.RuleLabels.{HasLabels};
 ghost use Rattle.nx_catalog.specs.Catalog.{Contents, IsCatalog, catalog_bytes};
 
 use crate::{Catalog, catalog_of};

@@ -1,8 +1,8 @@
 // The bytes of a catalog, written.
 ghost use Rattle.std.specs.Prelude.{◌≡◌, ◌<◌, ◌≤◌, ◌++◌, length, flat_map, All, IfOk, OnOk};
 ghost use Rattle.nx_matrix.specs.Rules.{AreRules, longest_label};
-ghost use Rattle.nx_script.specs.Rule.{HasLabels};
-ghost use Rattle.nx_script.specs.Field.{by_bytes};
+ghost use Rattle.nx_matrix.specs.RuleLabels.{HasLabels};
+ghost use Rattle.nx_pyx.specs.DocumentName.{by_bytes};
 ghost use Rattle.nx_catalog.specs.Inside.{AreDocumentEntries};
 ghost use Rattle.nx_catalog.specs.Catalog.{IsCatalog, catalog_bytes, with_length, place_bytes, entry_byte, document_bytes, rule_bytes};
 ghost use Rattle.nx_piece.specs.Encoding.{four_bytes, two_bytes};

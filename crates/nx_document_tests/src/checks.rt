@@ -14,14 +14,6 @@ pub(crate) fn check_count(rt: &impl Abort, found: u32, want: u32) {
     assert_eq!(rt; found, want);
 }
 
-pub(crate) fn check_len(rt: &impl Abort, found: usize, want: usize) {
-    assert_eq!(rt; found, want);
-}
-
-pub(crate) fn check_true(rt: &impl Abort, found: bool) {
-    assert_eq!(rt; found, true);
-}
-
 // The answer for a row of a table.
 pub(crate) fn check_row(rt: &impl Abort, found: bool, want: bool, row: &[u8]) {
     assert_eq!(rt; found, want, "{row:?}");

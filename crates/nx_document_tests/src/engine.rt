@@ -6,8 +6,8 @@ use crate::checks::{check_bytes, check_count};
 use crate::fixtures::{node, read};
 use nx_engine::Plain;
 use nx_matrix::{Entry, Rule};
-use nx_pyx::{PyxError, PyxFault, ReadError};
-use nx_script::{Command, LineBody, LoadBody, Reply, TextBody, is_document_name, write_reply};
+use nx_pyx::{PyxError, PyxFault, ReadError, is_document_name};
+use nx_script::{Command, LineBody, LoadBody, Reply, TextBody, write_reply};
 use nx_tree::{Bytes, NoMemory, Path, count};
 use std::alloc::Global;
 use std::process::Abort;
@@ -22,7 +22,7 @@ type Step = (
     &'static [u8],
 );
 
-const EDITED: [Step; 14] = [
+const EDITED: [Step; 16] = [
     ("load", b"d", &[], b"(a\n-hi\n)a\n", b"ok 3 0\n"),
     ("get", b"d", &[0, 0], b"", b"node 0 -hi\n"),
     ("insert", b"d", &[0, 1], b"(e", b"ok\n"),
@@ -35,8 +35,24 @@ const EDITED: [Step; 14] = [
     ("rule", b"", &[], b"", b"error syntax\n"),
     ("rules", b"", &[], b"", b"error syntax\n"),
     ("checkpoint", b"", &[], b"", b"error syntax\n"),
+    ("begin", b"", &[], b"", b"error syntax\n"),
+    ("commit", b"", &[], b"", b"error syntax\n"),
     ("names", b"", &[], b"", b"doc d 3\n.\n"),
     ("nothing", b"d", &[], b"", b"error syntax\n"),
+];
+
+// The text behind `rename` is the new name.
+const RENAMED: [Step; 10] = [
+    ("rename", b"d", &[], b"e", b"error no-document\n"),
+    ("rename", b"d", &[], b"d", b"error no-document\n"),
+    ("load", b"d", &[], b"(a\n)a\n", b"ok 2 0\n"),
+    ("rename", b"d", &[], b"d", b"error exists\n"),
+    ("rename", b"d", &[], b"e", b"ok\n"),
+    ("get", b"d", &[], b"", b"error no-document\n"),
+    ("load", b"d", &[], b"(b\n)b\n", b"ok 2 0\n"),
+    ("rename", b"d", &[], b"e", b"error exists\n"),
+    ("names", b"", &[], b"", b"doc d 2\ndoc e 2\n.\n"),
+    ("export", b"e", &[], b"", b"(a\n)a\n.\n"),
 ];
 
 const REFUSED: [Step; 38] = [
@@ -188,6 +204,7 @@ fn command(alloc: Global, step: Step) -> Result<Command, ReadError>
         "load" => load(alloc, step.1, step.3),
         "insert" | "retext" | "delete" | "get" => edit_of(alloc, step),
         "drop" | "export" | "layout" => look_of(alloc, step),
+        "rename" => rename(alloc, step.1, step.3),
         "rule" => set_rule(alloc),
         word => Ok(bare(word)),
     }
@@ -207,6 +224,18 @@ fn look_of(alloc: Global, step: Step) -> Result<Command, ReadError>
     Ok(look(step.0, Bytes::from_slice(alloc, step.1)?))
 }
 
+fn rename(alloc: Global, old: &[u8], new: &[u8]) -> Result<Command, ReadError>
+    ensures { IfOk result (λ command. CanCome command) }
+{
+    if !is_document_name(new) {
+        return Ok(Command::Bad);
+    }
+    Ok(Command::Rename {
+        old: Bytes::from_slice(alloc, old)?,
+        new: Bytes::from_slice(alloc, new)?,
+    })
+}
+
 fn set_rule(alloc: Global) -> Result<Command, ReadError>
     ensures { IfOk result (λ command. CanCome command) }
 {
@@ -221,6 +250,8 @@ fn bare(word: &str) -> Command
         "names" => Command::Names,
         "rules" => Command::Rules,
         "checkpoint" => Command::Checkpoint,
+        "begin" => Command::Begin { bare: true },
+        "commit" => Command::Commit,
         _ => Command::Bad,
     }
 }
@@ -284,6 +315,13 @@ fn check_refused(rt: &impl Abort, alloc: Global, plain: &mut Plain) -> Result<()
     check(rt, alloc, plain, &REFUSED)?;
     check_count(rt, count_in(plain, b"d"), 2);
     check_count(rt, count_in(plain, b"e"), 0);
+    Ok(())
+}
+
+#[test]
+fn renamed(rt: HostRuntime) -> Result<(), Fail> {
+    let mut plain = Plain::new(rt.alloc());
+    check(&rt, rt.alloc(), &mut plain, &RENAMED)?;
     Ok(())
 }
 

@@ -1,5 +1,5 @@
 //! Tests of the crates that know no host, over their public calls: trees and their edits, PYX, weights,
-//! the lines and replies of a script that ask for what a store has, and the engine. Beside the tests it has what they share with others: the way to a document from its
+//! the lines and replies of a script that ask for what a store has, transactions, and the engine. Beside the tests it has what they share with others: the way to a document from its
 //! lines.
 #![tactic(auto)]
 
@@ -11,7 +11,7 @@ mod fixtures;
 #[cfg(test)]
 mod lines;
 #[cfg(test)]
-mod lists;
+mod requests;
 #[cfg(test)]
 mod script;
 #[cfg(test)]
@@ -20,7 +20,5 @@ mod streams;
 mod trees;
 #[cfg(test)]
 mod weights;
-#[cfg(test)]
-mod whole_lines;
 
 pub use fixtures::{node, read};

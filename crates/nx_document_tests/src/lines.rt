@@ -1,7 +1,7 @@
 // Lines alone, the text of documents, and the texts of faults.
 use crate::checks::{check_bytes, check_row, check_text};
-use nx_pyx::{PyxError, PyxFault, ReadError, Writer, line_node, node_line, write};
-use nx_tree::{Bytes, Kind, NoMemory, Node, Tree, Trees};
+use nx_pyx::{PyxError, PyxFault, ReadError, line_node, node_line};
+use nx_tree::{Bytes, Kind, NoMemory, Node};
 use std::alloc::Global;
 use std::process::Abort;
 use std::test::Fail;
@@ -66,40 +66,6 @@ fn line_nodes(rt: HostRuntime) {
     }
 }
 
-// What is in front of so many bytes, and whether they are too long.
-const LENGTHS: [(&[u8], usize, bool); 7] = [
-    (b"-", 1_048_576, false),
-    (b"-", 1_048_577, true),
-    (b"-\\n\\x", 1_048_573, false),
-    (b"-\\n\\x", 1_048_574, true),
-    (b"Ak ", 1_048_575, false),
-    (b"Ak ", 1_048_576, true),
-    (b"(", 1_048_577, true),
-];
-
-// Whether a line is refused that has so many bytes behind that prefix.
-fn is_refused(alloc: Global, prefix: &[u8], count: usize) -> Result<bool, NoMemory> {
-    let mut line = Bytes::from_slice(alloc, prefix)?;
-    push_many(&mut line, count)?;
-    Ok(line_node(alloc, line.as_slice()).is_err())
-}
-
-fn push_many(line: &mut Bytes, count: usize) -> Result<(), NoMemory> {
-    for _ in 0..count {
-        line.push(b'x')?;
-    }
-    Ok(())
-}
-
-#[test]
-fn lengths(rt: HostRuntime) -> Result<(), Fail> {
-    for (prefix, count, is_long) in LENGTHS {
-        let found = is_refused(rt.alloc(), prefix, count)?;
-        check_row(&rt, found, is_long, prefix);
-    }
-    Ok(())
-}
-
 // A kind, a name, a content and the line of them.
 const NODES: [(Kind, &[u8], &[u8], &[u8]); 10] = [
     (Kind::Doc, b"", b"", b"#doc"),
@@ -119,119 +85,11 @@ const NODES: [(Kind, &[u8], &[u8], &[u8]); 10] = [
     (Kind::Instruction, b"p", b"\tq", b"?p \\tq"),
 ];
 
-const TEXT: &[u8] = b"?p\n(a\nAk v\\\\\n(b\n)b\n-x\\ny\n(c\n-\n(d\n)d\n)c\n)a\n?q r\n";
-
-// A kind of a node of the name `k` that stands in an element, its content, and its line.
-const WRITTEN: [(Kind, &[u8], &[u8]); 19] = [
-    (Kind::Attribute, b"", b"Ak "),
-    (Kind::Attribute, b" ", b"Ak  "),
-    (Kind::Attribute, b"v w", b"Ak v w"),
-    (Kind::Attribute, b"\n", b"Ak \\n"),
-    (Kind::Attribute, b"\t", b"Ak \\t"),
-    (Kind::Attribute, b"\r", b"Ak \\r"),
-    (Kind::Attribute, b"\\", b"Ak \\\\"),
-    (Kind::Attribute, b"\\n\n\t\r\\x", b"Ak \\\\n\\n\\t\\r\\\\x"),
-    (
-        Kind::Attribute,
-        b"sixteen bytes...\\and one behind",
-        b"Ak sixteen bytes...\\\\and one behind",
-    ),
-    (Kind::Instruction, b"", b"?k"),
-    (Kind::Instruction, b" ", b"?k  "),
-    (Kind::Instruction, b"q r", b"?k q r"),
-    (Kind::Instruction, b"\n", b"?k \\n"),
-    (Kind::Instruction, b"\t", b"?k \\t"),
-    (Kind::Instruction, b"\r", b"?k \\r"),
-    (Kind::Instruction, b"\\", b"?k \\\\"),
-    (
-        Kind::Instruction,
-        b"\\n\n\t\r\\x",
-        b"?k \\\\n\\n\\t\\r\\\\x",
-    ),
-    (Kind::Text, b"\\n\n\t\r\\x", b"-\\\\n\\n\\t\\r\\\\x"),
-    (Kind::Text, b"\x0b\x0c\x00/[]", b"-\x0b\x0c\x00/[]"),
-];
-
 fn node(alloc: Global, kind: Kind, name: &[u8], content: &[u8]) -> Result<Node, NoMemory> {
     Ok(Node {
         kind,
         name: Bytes::from_slice(alloc, name)?,
         content: Bytes::from_slice(alloc, content)?,
-    })
-}
-
-fn add(
-    trees: &mut Trees,
-    alloc: Global,
-    kind: Kind,
-    name: &[u8],
-    content: &[u8],
-    children: Trees,
-) -> Result<(), NoMemory> {
-    let node = node(alloc, kind, name, content)?;
-    trees.push(Tree { node, children })
-}
-
-// Adds a node with nothing below it.
-fn add_leaf(
-    trees: &mut Trees,
-    alloc: Global,
-    kind: Kind,
-    name: &[u8],
-    content: &[u8],
-) -> Result<(), NoMemory> {
-    add(trees, alloc, kind, name, content, Trees::new(alloc))
-}
-
-fn add_text_and_d(trees: &mut Trees, alloc: Global) -> Result<(), NoMemory> {
-    add_leaf(trees, alloc, Kind::Text, b"", b"")?;
-    add_leaf(trees, alloc, Kind::Element, b"d", b"x")
-}
-
-fn add_text_over_x(trees: &mut Trees, alloc: Global) -> Result<(), NoMemory> {
-    let mut below = Trees::new(alloc);
-    add_leaf(&mut below, alloc, Kind::Element, b"x", b"")?;
-    add(trees, alloc, Kind::Text, b"", b"x\ny", below)
-}
-
-fn add_c(trees: &mut Trees, alloc: Global) -> Result<(), NoMemory> {
-    let mut below = Trees::new(alloc);
-    add_text_and_d(&mut below, alloc)?;
-    add(trees, alloc, Kind::Element, b"c", b"", below)
-}
-
-fn add_below_a(trees: &mut Trees, alloc: Global) -> Result<(), NoMemory> {
-    add_leaf(trees, alloc, Kind::Attribute, b"k", b"v\\")?;
-    add_leaf(trees, alloc, Kind::Element, b"b", b"")?;
-    add_text_over_x(trees, alloc)?;
-    add_c(trees, alloc)
-}
-
-fn add_a(trees: &mut Trees, alloc: Global) -> Result<(), NoMemory> {
-    let mut below = Trees::new(alloc);
-    add_below_a(&mut below, alloc)?;
-    add(trees, alloc, Kind::Element, b"a", b"", below)
-}
-
-fn add_top(trees: &mut Trees, alloc: Global) -> Result<(), NoMemory> {
-    add_leaf(trees, alloc, Kind::Instruction, b"p", b"")?;
-    add_a(trees, alloc)?;
-    add_leaf(trees, alloc, Kind::Instruction, b"q", b"r")
-}
-
-// The tree of `TEXT`. It has parts that no document has and that have no line: a content of an
-// element, and a child of a text.
-fn document(alloc: Global) -> Result<Tree, NoMemory> {
-    let mut children = Trees::new(alloc);
-    add_top(&mut children, alloc)?;
-    over(alloc, children)
-}
-
-// The trees below the root of a document.
-fn over(alloc: Global, children: Trees) -> Result<Tree, NoMemory> {
-    Ok(Tree {
-        node: node(alloc, Kind::Doc, b"", b"")?,
-        children,
     })
 }
 
@@ -246,108 +104,6 @@ fn node_lines(rt: HostRuntime) -> Result<(), Fail> {
         check_bytes(&rt, line.as_slice(), expected);
     }
     Ok(())
-}
-
-// An element over one node of the name `k`.
-fn element_over(alloc: Global, kind: Kind, content: &[u8]) -> Result<Tree, NoMemory> {
-    let mut inner = Trees::new(alloc);
-    add_leaf(&mut inner, alloc, kind, b"k", content)?;
-    let mut children = Trees::new(alloc);
-    add(&mut children, alloc, Kind::Element, b"a", b"", inner)?;
-    over(alloc, children)
-}
-
-fn element_text(alloc: Global, kind: Kind, content: &[u8]) -> Result<Bytes, NoMemory> {
-    write(alloc, &element_over(alloc, kind, content)?)
-}
-
-#[test]
-fn written(rt: HostRuntime) -> Result<(), Fail> {
-    for (kind, content, line) in WRITTEN {
-        let text = element_text(rt.alloc(), kind, content)?;
-        check_between(&rt, text.as_slice(), line);
-    }
-    Ok(())
-}
-
-// The text of an element has this line between its own two.
-fn check_between(rt: &impl Abort, text: &[u8], line: &[u8]) {
-    assert_eq!(rt; between(text), Some(line));
-}
-
-fn between(text: &[u8]) -> Option<&[u8]> {
-    text.strip_prefix(b"(a\n")?.strip_suffix(b"\n)a\n")
-}
-
-// Adds the next block, and says whether there is more.
-fn push_block(
-    writer: &mut Writer<'_>,
-    whole: &mut Bytes,
-    block: &mut Bytes,
-    enough: usize,
-) -> Result<bool, NoMemory> {
-    block.clear();
-    let more = writer.fill(block, enough)?;
-    whole.extend_from_slice(block.as_slice())?;
-    Ok(more)
-}
-
-// The text of the document, in blocks that have enough with so many bytes.
-fn in_blocks(alloc: Global, tree: &Tree, enough: usize) -> Result<Bytes, NoMemory> {
-    let mut writer = Writer::new(alloc, tree)?;
-    let mut block = Bytes::new(alloc);
-    let mut whole = Bytes::new(alloc);
-    push_blocks(&mut writer, &mut whole, &mut block, enough)?;
-    Ok(whole)
-}
-
-fn push_blocks(
-    writer: &mut Writer<'_>,
-    whole: &mut Bytes,
-    block: &mut Bytes,
-    enough: usize,
-) -> Result<(), NoMemory> {
-    for _ in 0..TEXT.len() {
-        if !push_block(writer, whole, block, enough)? {
-            break;
-        }
-    }
-    Ok(())
-}
-
-fn at_once(alloc: Global, tree: &Tree) -> Result<Bytes, NoMemory> {
-    write(alloc, tree)
-}
-
-#[test]
-fn blocks(rt: HostRuntime) -> Result<(), Fail> {
-    let tree = document(rt.alloc())?;
-    check_blocks(&rt, rt.alloc(), &tree)?;
-    Ok(())
-}
-
-fn check_blocks(rt: &impl Abort, alloc: Global, tree: &Tree) -> Result<(), NoMemory> {
-    let text = at_once(alloc, tree)?;
-    check_bytes(rt, text.as_slice(), TEXT);
-    for enough in [1usize, 2, 3, 10, 20, 50, 1000] {
-        check_in_blocks(rt, alloc, tree, enough)?;
-    }
-    Ok(())
-}
-
-fn check_in_blocks(
-    rt: &impl Abort,
-    alloc: Global,
-    tree: &Tree,
-    enough: usize,
-) -> Result<(), NoMemory> {
-    let whole = in_blocks(alloc, tree, enough)?;
-    check_whole(rt, whole.as_slice(), enough);
-    Ok(())
-}
-
-fn check_whole(rt: &impl Abort, whole: &[u8], enough: usize) {
-    assert_eq!(rt; whole, TEXT, "{enough}");
 }
 
 // A line, its fault, and the text of both.

@@ -10,7 +10,7 @@ use std::process::Abort;
 use std::test::Fail;
 
 // A line, and its command in words: its name, and the document's, or the labels and the entry.
-const LINES: [(&[u8], &[u8]); 14] = [
+const LINES: [(&[u8], &[u8]); 19] = [
     (b"layout d", b"layout d"),
     (b"layout !~a/#@-\r", b"layout !~a/#@-"),
     (b"rules", b"rules"),
@@ -28,10 +28,15 @@ const LINES: [(&[u8], &[u8]); 14] = [
         b"set rule, rules: Standalone",
     ),
     (b"rule a:b \xff!~ free", b"set a:b, \xff!~: Free"),
+    (b"rename d !~\r", b"rename d !~"),
+    (b"begin\r", b"begin"),
+    (b"begin ", b"begin and more"),
+    (b"begin d", b"begin and more"),
+    (b"commit", b"commit"),
 ];
 
 // Lines that are no command for their fields,
-const WRONG_FIELDS: [&[u8]; 30] = [
+const WRONG_FIELDS: [&[u8]; 39] = [
     b"layout",
     b"layout ",
     b"layout -d",
@@ -62,6 +67,15 @@ const WRONG_FIELDS: [&[u8]; 30] = [
     b"rule a b Free",
     b"rule a b cluste",
     b"rule a b clusters",
+    b"rename",
+    b"rename d",
+    b"rename d ",
+    b"rename d  e",
+    b"rename d e ",
+    b"rename -d e",
+    b"rename d -e",
+    b"commit ",
+    b"begins",
 ];
 
 // for a label of a parent, before a child and an entry,
@@ -73,18 +87,6 @@ const WRONG_PARENTS: [&[u8]; 12] = [
 const WRONG_CHILDREN: [&[u8]; 16] = [
     b"", b"#", b"#doc", b"#texts", b"#Text", b"@", b"?", b"@@a", b"@?a", b"?@a", b"@#text", b"a@b",
     b"a/b", b"@a/b", b"?a\\", b"*",
-];
-
-// What stands before and behind so many bytes of a label, and whether the label is too long.
-const LENGTHS: [(&[u8], usize, &[u8], bool); 8] = [
-    (b"rule ", 1024, b" b free", false),
-    (b"rule ", 1025, b" b free", true),
-    (b"rule a ", 1024, b" free", false),
-    (b"rule a ", 1025, b" free", true),
-    (b"rule a @", 1023, b" free", false),
-    (b"rule a @", 1024, b" free", true),
-    (b"rule a ?", 1023, b" free", false),
-    (b"rule a ?", 1024, b" free", true),
 ];
 
 // A rule, and its line.
@@ -143,6 +145,12 @@ fn said(alloc: Global, command: &Command) -> Result<Bytes, NoMemory> {
         Command::Rules => joined(alloc, &[b"rules"]),
         Command::Checkpoint => joined(alloc, &[b"checkpoint"]),
         Command::SetRule { rule } => rule_text(alloc, rule),
+        Command::Rename { old, new } => {
+            joined(alloc, &[b"rename ", old.as_slice(), b" ", new.as_slice()])
+        }
+        Command::Begin { bare: true } => joined(alloc, &[b"begin"]),
+        Command::Begin { bare: false } => joined(alloc, &[b"begin and more"]),
+        Command::Commit => joined(alloc, &[b"commit"]),
         Command::Bad => joined(alloc, &[b"bad"]),
         _ => joined(alloc, &[b"another"]),
     }
@@ -224,27 +232,6 @@ fn labels(rt: HostRuntime) -> Result<(), Fail> {
     }
     for child in WRONG_CHILDREN {
         check_line(&rt, rt.alloc(), &[b"rule a ", child, b" free"], b"bad")?;
-    }
-    Ok(())
-}
-
-// Whether a line is no command that has so many bytes between these.
-fn is_bad(alloc: Global, prefix: &[u8], count: usize, back: &[u8]) -> Result<bool, NoMemory> {
-    let line = line_with(alloc, prefix, count, back)?;
-    let command = command(alloc, line.as_slice())?;
-    Ok(matches!(&command, Command::Bad))
-}
-
-fn line_with(alloc: Global, prefix: &[u8], count: usize, back: &[u8]) -> Result<Bytes, NoMemory> {
-    let label = Vec::from_elem(alloc, b'x', count)?;
-    joined(alloc, &[prefix, label.as_slice(), back])
-}
-
-#[test]
-fn lengths(rt: HostRuntime) -> Result<(), Fail> {
-    for (prefix, count, back, is_long) in LENGTHS {
-        let found = is_bad(rt.alloc(), prefix, count, back)?;
-        check_row(&rt, found, is_long, prefix);
     }
     Ok(())
 }
@@ -360,30 +347,6 @@ fn layouts(rt: HostRuntime) -> Result<(), Fail> {
     let text = b"root 3\nrun / 0 1 256\nrun /0/12 2 4294967295 17\n.\n";
     check_text(&rt, rt.alloc(), &reply, text)?;
     Ok(())
-}
-
-fn heavy(alloc: Global, path: &[u32], weight: u32) -> Result<Reply, NoMemory> {
-    let path = Path::from_slice(alloc, path)?;
-    Ok(Reply::Refused(ReplyError::TooHeavy { path, weight }))
-}
-
-#[test]
-fn heavy_nodes(rt: HostRuntime) -> Result<(), Fail> {
-    check_heavy(&rt, rt.alloc(), &[], 2, b"error too-heavy / 2\n")?;
-    let expected = b"error too-heavy /0/12 257\n";
-    check_heavy(&rt, rt.alloc(), &[0, 12], 257, expected)?;
-    Ok(())
-}
-
-fn check_heavy(
-    rt: &impl Abort,
-    alloc: Global,
-    path: &[u32],
-    weight: u32,
-    expected: &[u8],
-) -> Result<(), NoMemory> {
-    let reply = heavy(alloc, path, weight)?;
-    check_text(rt, alloc, &reply, expected)
 }
 
 #[test]

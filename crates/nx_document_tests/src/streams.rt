@@ -158,19 +158,6 @@ const LINES: [Long; 2] = [
     ),
 ];
 
-// The same with two bytes for each of the content. A backslash is one too many whatever comes behind.
-const ESCAPED: [Long; 2] = [
-    (b"(a\nAy ", b"\\n", 1_048_575, b"\r\n", 1, None),
-    (
-        b"?y ",
-        b"\\n",
-        1_048_575,
-        b"\\",
-        1,
-        Some((1, PyxFault::LongLine)),
-    ),
-];
-
 const DEEP: [Long; 5] = [
     (b"", b"(a\n", 256, b"", 256, None),
     (
@@ -210,16 +197,6 @@ const MANY: [Long; 2] = [
         1,
         Some((524_288, PyxFault::TooMany)),
     ),
-];
-
-// A prefix, as many x behind it as are allowed, and pieces behind those of which the last tells that
-// they are too many.
-const MOMENTS: [(&[u8], usize, &[&[u8]]); 5] = [
-    (b"(a\n-", 1_048_576, &[b"x"]),
-    (b"(a\n-", 1_048_576, &[b"\r", b"x"]),
-    (b"(a\n-", 1_048_575, &[b"\\", b"n", b"x"]),
-    (b"(", 1_048_576, &[b"x"]),
-    (b"(a\nAy ", 1_048_573, &[b"\\", b"q", b"\r", b"\r"]),
 ];
 
 // How a stream is cut.
@@ -541,49 +518,8 @@ fn check_long(
 }
 
 #[test]
-fn long_line(rt: HostRuntime) -> Result<(), Fail> {
-    check_long(&rt, rt.alloc(), LINES[0], &LONG)
-}
-
-#[test]
 fn too_long_line(rt: HostRuntime) -> Result<(), Fail> {
     check_long(&rt, rt.alloc(), LINES[1], &LONG)
-}
-
-#[test]
-fn long_escaped_line(rt: HostRuntime) -> Result<(), Fail> {
-    check_long(&rt, rt.alloc(), ESCAPED[0], &LONG_AND_SLOW)
-}
-
-#[test]
-fn too_long_escaped_line(rt: HostRuntime) -> Result<(), Fail> {
-    check_long(&rt, rt.alloc(), ESCAPED[1], &LONG_AND_SLOW)
-}
-
-// A line of so many x behind the prefix is too long with the last of the pieces behind it.
-fn check_moment(
-    rt: &impl Abort,
-    alloc: Global,
-    prefix: &'static [u8],
-    count: usize,
-    behind: &[&[u8]],
-) -> Result<(), Fail> {
-    let stream = bytes_of(alloc, (prefix, b"x", count, b"", 0, None))?;
-    let mut cut = Vec::new(alloc);
-    cut.push(stream.as_slice())?;
-    cut.extend_from_slice(behind)?;
-    let told = cut.concat(alloc)?.len().saturating_sub(1);
-    let line = if prefix.len() == 1 { 1 } else { 2 };
-    let fault = PyxFault::LongLine;
-    check(rt, alloc, &cut, told, Err(PyxError { line, fault }))
-}
-
-#[test]
-fn long_line_is_told_at_once(rt: HostRuntime) -> Result<(), Fail> {
-    for (prefix, count, behind) in MOMENTS {
-        check_moment(&rt, rt.alloc(), prefix, count, behind)?;
-    }
-    Ok(())
 }
 
 #[test]
@@ -592,11 +528,6 @@ fn deep(rt: HostRuntime) -> Result<(), Fail> {
         check_long(&rt, rt.alloc(), stream, &SHORT)?;
     }
     Ok(())
-}
-
-#[test]
-fn many_nodes(rt: HostRuntime) -> Result<(), Fail> {
-    check_long(&rt, rt.alloc(), MANY[0], &LONG_AND_SLOW)
 }
 
 #[test]

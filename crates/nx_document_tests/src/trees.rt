@@ -7,8 +7,7 @@ use crate::checks::{check_bytes, check_count};
 use crate::fixtures::{node, read};
 use nx_pyx::{ReadError, write};
 use nx_tree::{
-    Bytes, Kind, NoMemory, Tree, TreeError, copy, count, delete_at, depth, insert_at, node_at,
-    retext_at,
+    Bytes, NoMemory, Tree, TreeError, count, delete_at, depth, insert_at, node_at, retext_at,
 };
 use std::alloc::Global;
 use std::process::Abort;
@@ -76,14 +75,6 @@ const RETEXTS: [(&[u32], Result<&[u8], TreeError>); 5] = [
     (&[1], NO_CONTENT),
     (&[1, 0], Ok(b"?p 3\n(e\nAx z\n-hi\n(e\n)e\n)e\n")),
     (&[1, 1], Ok(b"?p 3\n(e\nAx 1\n-z\n(e\n)e\n)e\n")),
-];
-
-// A path in the sample, and the kind of the node there.
-const NODES: [(&[u32], Result<Kind, TreeError>); 4] = [
-    (&[], Ok(Kind::Doc)),
-    (&[1, 1], Ok(Kind::Text)),
-    (&[1, 3], Err(TreeError::NoNode)),
-    (&[1, 0, 0], Err(TreeError::NoNode)),
 ];
 
 // The document of the sample.
@@ -219,77 +210,15 @@ fn retexts(rt: HostRuntime) -> Result<(), Fail> {
     Ok(())
 }
 
-// The kind of the node at the path.
-fn kind_at(tree: &Tree, path: &[u32]) -> Result<Kind, TreeError>
-    requires { IsDocument tree.now }
-{
-    match node_at(tree, path) {
-        Ok(found) => Ok(found.node.kind),
-        Err(error) => Err(error),
-    }
-}
-
 fn counts(tree: &Tree) -> (u32, u32)
     requires { IsDocument tree.now }
 {
     (count(tree), depth(tree))
 }
 
-#[test]
-fn nodes(rt: HostRuntime) -> Result<(), Fail> {
-    let tree = sample(rt.alloc())?;
-    check_nodes(&rt, &tree);
-    Ok(())
-}
-
-fn check_nodes(rt: &impl Abort, tree: &Tree)
-    requires { IsDocument tree.now }
-{
-    for (path, want) in NODES {
-        check_kind(rt, kind_at(tree, path), want);
-    }
-}
-
-fn check_kind(rt: &impl Abort, found: Result<Kind, TreeError>, want: Result<Kind, TreeError>) {
-    assert_eq!(rt; found, want);
-}
-
 // So many nodes, and so deep.
 fn check_size(rt: &impl Abort, found: (u32, u32), want: (u32, u32)) {
     assert_eq!(rt; found, want);
-}
-
-fn copied(alloc: Global, tree: &Tree) -> Result<Tree, TreeError>
-    requires { IsDocument tree.now }
-    ensures { IfOk result (λ copied. IsDocument copied) }
-{
-    copy(alloc, tree)
-}
-
-#[test]
-fn copies(rt: HostRuntime) -> Result<(), Fail> {
-    let mut tree = sample(rt.alloc())?;
-    let copied = copied(rt.alloc(), &tree)?;
-    check_apart(&rt, rt.alloc(), &mut tree, &copied)?;
-    Ok(())
-}
-
-// The copy stays as it was when a tree is taken out of the other.
-fn check_apart(
-    rt: &impl Abort,
-    alloc: Global,
-    tree: &mut Tree,
-    copied: &Tree,
-) -> Result<(), TreeError>
-    requires tree { IsDocument tree.old }
-    requires copied { IsDocument copied.now }
-{
-    delete(tree, &[1, 2])?;
-    check_size(rt, counts(tree), (5, 2));
-    check_size(rt, counts(copied), (6, 2));
-    let text = text_of(alloc, copied)?;
-    check_bytes(rt, text.as_slice(), SAMPLE);
-    Ok(())
 }
 
 // The document of one element.
@@ -321,33 +250,4 @@ fn deepest(rt: HostRuntime) -> Result<(), Fail> {
     check_answer(&rt, answer, Err(TreeError::TooDeep));
     check_size(&rt, counts(&tree), (257, 256));
     Ok(())
-}
-
-// Adds as many texts as there may be.
-fn fill(alloc: Global, tree: &mut Tree) -> Result<(), TreeError>
-    requires { IsDocument tree.old }
-    ensures { IsDocument tree.new }
-{
-    for position in 0..524_286 {
-        insert(alloc, tree, &[0, position], b"-hi")?;
-    }
-    Ok(())
-}
-
-#[test]
-fn most(rt: HostRuntime) -> Result<(), Fail> {
-    let mut tree = element(rt.alloc())?;
-    check_most(&rt, rt.alloc(), &mut tree)?;
-    Ok(())
-}
-
-fn check_most(rt: &impl Abort, alloc: Global, tree: &mut Tree) -> Result<(), TreeError>
-    requires { IsDocument tree.old }
-{
-    fill(alloc, tree)?;
-    let answer = insert(alloc, tree, &[0, 0], b"-hi");
-    check_answer(rt, answer, Err(TreeError::TooMany));
-    check_count(rt, counts(tree).0, 524_288);
-    delete(tree, &[0, 524_285])?;
-    insert(alloc, tree, &[0, 0], b"Ax 1")
 }

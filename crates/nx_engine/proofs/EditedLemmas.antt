@@ -20,7 +20,7 @@ use Rattle.nx_script.specs.declared.command.Command.TheVariants.{Insert, Retext}
 use Rattle.nx_script.specs.declared.reply.Reply.{Reply}
 use Rattle.nx_script.specs.declared.reply.ReplyError.{ReplyError}
 use Rattle.nx_script.specs.declared.reply.ReplyError.TheVariants.{NoNode, BadPlace, Twice, NoContent, TooDeep, TooMany}
-use Rattle.nx_script.specs.Field.{name_order, vector_order}
+use Rattle.nx_pyx.specs.DocumentName.{name_order, vector_order}
 use Rattle.nx_engine.specs.Documents.{Documents}
 use Rattle.nx_engine.specs.Step.{worded, done_unless, by_document, documents_edited, documents_after}
 use Rattle.nx_engine.specs.Plain.{documents_in, AreDocuments}

@@ -10,7 +10,7 @@ use Rattle.nx_tree.specs.Forest.{OrderedTree, nodes}
 use Rattle.nx_script.specs.declared.reply.DocLine.{DocLine}
 use Rattle.nx_engine.specs.Documents.{Documents}
 use Rattle.nx_engine.specs.Step.{document_line}
-use Rattle.nx_script.specs.Field.{by_bytes}
+use Rattle.nx_pyx.specs.DocumentName.{by_bytes}
 use Rattle.nx_engine.proofs.MapLemmas.{Shows, entries-documents_in}
 
 -- an entry of the map

@@ -1,6 +1,6 @@
 -- A map of trees by vectors, against the finite map by bytes that it stands for.
 use Rattle.std.proofs.Common.{Ordering, ◌≡◌, ℕ, Bool, true, false, cond, T, List, [], ◌∷◌, refl, sym, ap, subst, ◌∙◌, Option, None, Some, ◌&&◌, ⊎_elim}
-use Rattle.std.specs.Prelude.{IfSome, MatchOption}
+use Rattle.std.specs.Prelude.{IfSome, MatchOption, is_some}
 use Rattle.std.specs.Borrow.{Bor}
 use Rattle.std.specs.Option.{option_copied}
 use Rattle.std.specs.Global.{Vec}
@@ -12,7 +12,7 @@ use Rattle.std.specs.List.{AllByRecursion}
 use Rattle.std.specs.List.Sorted.{IsStrictlySortedBy}
 use Rattle.std.specs.Map.{lookup, keys_of, remove_entry, KeepsOthers}
 use Rattle.std.specs.BTreeMap.{BTreeMap, UpdatesBy, WritesThrough, get_by, IsOrdered, insert_entry, is_at}
-use Rattle.std.specs.FinMap.{get, insert, remove, entries, empty, find, is_sorted, from_sorted, entries-from_sorted, get-from_sorted, get-empty, get-insert, get-remove, same_map, slice_cmp-IsAntisymmetric, nat_cmp-IsAntisymmetric}
+use Rattle.std.specs.FinMap.{get, contains_key, insert, remove, entries, empty, find, is_sorted, from_sorted, entries-from_sorted, get-from_sorted, get-empty, get-insert, get-remove, same_map, slice_cmp-IsAntisymmetric, nat_cmp-IsAntisymmetric}
 use Rattle.std.specs.FinMap.Entries.{below_all}
 use Rattle.std.proofs.lemmas.Bool.{cases_Bool, cond-true, cond-false}
 use Rattle.std.proofs.lemmas.Map.Keys.{sorted_head, sorted_tail}
@@ -20,7 +20,7 @@ use Rattle.std.proofs.lemmas.Map.Lookups.{exact_bytes}
 use Rattle.std.proofs.lemmas.Map.Views.{tells_apart, IfSome-lookup_from_All, All-values-insert_entry, All-map-remove_entry, All-values-set_value}
 use Rattle.nx_tree.specs.Forest.{OrderedTree}
 use Rattle.nx_tree.specs.Document.{IsDocument}
-use Rattle.nx_script.specs.Field.{name_order, vector_order, by_bytes}
+use Rattle.nx_pyx.specs.DocumentName.{name_order, vector_order, by_bytes}
 use Rattle.nx_engine.specs.Documents.{Documents}
 use Rattle.nx_engine.specs.Plain.{documents_in, AreDocuments}
 
@@ -92,6 +92,23 @@ insert_same m name tree some = same_documents _ _ (λ q. get-insert nat_list_cmp
     (λ y. cond-true _ (Some tree) (get m q) y ∙ sym some ∙ ap (get m) (sym (same_name q name y)))
     (λ f. cond-false _ (Some tree) (get m q) f)
     (cases_Bool (eq_by_cmp name_order q name)))
+
+-- a document put under another name, which is free, before its own is taken away or behind it
+pub put_elsewhere : (m : Documents) (old new : List ℕ) (tree found : OrderedTree) → get m old ≡ Some found → contains_key m new ≡ false → remove (insert m new tree) old ≡ insert (remove m old) new tree
+put_elsewhere m old new tree found there absent = same_documents _ _ (λ q.
+    get-remove nat_list_cmp_total (insert m new tree) old q ∙ ap (cond (eq_by_cmp name_order q old) None) (get-insert nat_list_cmp_total m new tree q)
+    ∙ swapped (eq_by_cmp name_order q old) (eq_by_cmp name_order q new) (get m q)
+    (λ a b. let both : None ≡ Some found = sym (nothing (get m new) absent) ∙ ap (get m) (sym (same_name q new b) ∙ same_name q old a) ∙ there in absurd (cc))
+    ∙ ap (cond (eq_by_cmp name_order q new) (Some tree)) (sym (get-remove nat_list_cmp_total m old q)) ∙ sym (get-insert nat_list_cmp_total (remove m old) new tree q))
+  where
+    swapped : (a b : Bool) (x : Option OrderedTree) → (a ≡ true → b ≡ true → ⊥) → cond a None (cond b (Some tree) x) ≡ cond b (Some tree) (cond a None x)
+    swapped true true x apart = absurd (apart refl refl)
+    swapped true false x apart = refl
+    swapped false b x apart = refl
+
+    nothing : (o : Option OrderedTree) → is_some o ≡ false → o ≡ None
+    nothing None e = refl
+    nothing (Some t) e = cc
 
 pub empty_documents : (m : BTreeMap (Vec ℕ) OrderedTree) → m.entries ≡ [] → documents_in m ≡ empty
 empty_documents m e = same_documents _ _ (λ q. ap (λ es. get (from_sorted {R = name_order} (by_bytes es)) q) e ∙ get-from_sorted name_order [] q tt ∙ sym (get-empty name_order q))

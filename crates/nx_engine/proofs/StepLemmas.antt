@@ -19,7 +19,7 @@ use Rattle.nx_script.specs.declared.command.LoadBody.TheVariants as load
 use Rattle.nx_script.specs.declared.command.LineBody.TheVariants as line
 use Rattle.nx_script.specs.declared.command.TextBody.TheVariants as content
 use Rattle.nx_script.specs.declared.command.Command.{Command}
-use Rattle.nx_script.specs.declared.command.Command.TheVariants.{Load, Discard, Names, Export, Insert, Delete, Retext, Get, Layout, SetRule, Rules, Checkpoint, Bad}
+use Rattle.nx_script.specs.declared.command.Command.TheVariants.{Load, Discard, Rename, Names, Export, Insert, Delete, Retext, Get, Layout, SetRule, Rules, Checkpoint, Begin, Commit, Bad}
 use Rattle.nx_script.specs.declared.reply.Reply.{Reply}
 use Rattle.nx_script.specs.declared.reply.Reply.TheVariants as reply
 use Rattle.nx_script.specs.declared.reply.ReplyError.{ReplyError}
@@ -65,11 +65,19 @@ refused_load : (documents : Documents) (name : List ℕ) (tree : OrderedTree) (t
 refused_load documents name tree true e r = refl
 refused_load documents name tree false e r = cc
 
+refused_rename : (documents : Documents) (old new : List ℕ) (there : Bool) (found : Option OrderedTree) (e : ReplyError) →
+    option_map_or (λ _. cond there (reply.Refused Exists) reply.Done) found (reply.Refused NoDocument) ≡ reply.Refused e →
+    cond there documents (option_map_or (insert (remove documents old) new) found documents) ≡ documents
+refused_rename documents old new true found e r = refl
+refused_rename documents old new false None e r = refl
+refused_rename documents old new false (Some tree) e r = cc
+
 -- a command that is refused changes nothing
 pub refused_after : (documents : Documents) (command : Command) (e : ReplyError) → reply_to documents command ≡ reply.Refused e → documents_after documents command ≡ documents
 refused_after documents (Load name (load.Read tree)) e r = refused_load documents name tree (contains_key documents name) e r
 refused_after documents (Load name (load.Wrong error)) e r = refl
 refused_after documents (Discard name) e r = refused_discard documents name e r
+refused_after documents (Rename old new) e r = refused_rename documents old new (contains_key documents new) (get documents old) e r
 refused_after documents Names e r = refl
 refused_after documents (Export name) e r = refl
 refused_after documents (Insert name path (line.Read node)) e r = refused_edit documents name (insert_fault path (line.Read node)) _ e r
@@ -82,6 +90,8 @@ refused_after documents (Layout name) e r = refl
 refused_after documents (SetRule rule) e r = refl
 refused_after documents Rules e r = refl
 refused_after documents Checkpoint e r = refl
+refused_after documents (Begin bare) e r = refl
+refused_after documents Commit e r = refl
 refused_after documents Bad e r = refl
 
 -- the same, of what a call may not end
@@ -117,3 +127,24 @@ long_refused path bytes tree e = ap (λ b. option_or (cond b (Some (Pyx (fault_a
 
 pub short_refused : (path bytes : List ℕ) (tree : OrderedTree) → nat_lt longest_node (length (name_at path tree) + length bytes) ≡ false → retext_fault path (content.Read bytes) tree ≡ option_and_then worded (retext_refusal path tree)
 short_refused path bytes tree e = ap (λ b. option_or (cond b (Some (Pyx (fault_at 1 LongLine))) None) (option_and_then worded (retext_refusal path tree))) e
+
+-- a document that gets another name
+pub rename_nowhere : (documents : Documents) (old new : List ℕ) → get documents old ≡ None → documents_after documents (Rename old new) ≡ documents
+rename_nowhere documents old new none = ap (λ o. cond (contains_key documents new) documents (option_map_or (insert (remove documents old) new) o documents)) none ∙ same (contains_key documents new)
+  where
+    same : (b : Bool) → cond b documents documents ≡ documents
+    same true = refl
+    same false = refl
+
+pub rename_present : (documents : Documents) (old new : List ℕ) → contains_key documents new ≡ true → documents_after documents (Rename old new) ≡ documents
+rename_present documents old new e = ap (λ b. cond b documents (option_map_or (insert (remove documents old) new) (get documents old) documents)) e
+
+pub rename_done : (documents : Documents) (old new : List ℕ) (tree : OrderedTree) → get documents old ≡ Some tree → contains_key documents new ≡ false →
+    documents_after documents (Rename old new) ≡ insert (remove documents old) new tree
+rename_done documents old new tree there absent =
+    ap (λ b. cond b documents (option_map_or (insert (remove documents old) new) (get documents old) documents)) absent
+    ∙ ap (λ o. option_map_or (insert (remove documents old) new) o documents) there
+
+pub rename_reply : (documents : Documents) (old new : List ℕ) (tree : OrderedTree) → get documents old ≡ Some tree →
+    reply_to documents (Rename old new) ≡ cond (contains_key documents new) (reply.Refused Exists) reply.Done
+rename_reply documents old new tree there = by_found documents old tree (λ _. cond (contains_key documents new) (reply.Refused Exists) reply.Done) there

@@ -1,8 +1,7 @@
 -- Documents by their names.
-use Rattle.std.specs.Prelude.{ℕ, List}
 use Rattle.std.specs.FinMap.{FinMap}
 use Rattle.nx_tree.specs.Forest.{OrderedTree}
-use Rattle.nx_script.specs.Field.{name_order}
+use Rattle.nx_pyx.specs.DocumentName.{name_order}
 
 -- a finite map from names to trees
 abbrev pub Documents : Type 0

@@ -6,7 +6,7 @@ use Rattle.std.specs.BTreeMap.{BTreeMap, IsOrdered, values}
 use Rattle.std.specs.FinMap.{from_sorted, code}
 use Rattle.nx_tree.specs.Forest.{OrderedTree, tree_code}
 use Rattle.nx_tree.specs.Document.{IsDocument}
-use Rattle.nx_script.specs.Field.{name_order, by_bytes, vector_order}
+use Rattle.nx_pyx.specs.DocumentName.{name_order, by_bytes, vector_order}
 use Rattle.nx_engine.specs.Documents.{Documents}
 
 abbrev pub documents_in : BTreeMap (Vec ℕ) OrderedTree → Documents

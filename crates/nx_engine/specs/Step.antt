@@ -17,7 +17,7 @@ use Rattle.nx_script.specs.declared.command.LineBody.TheVariants as line
 use Rattle.nx_script.specs.declared.command.TextBody.{TextBody}
 use Rattle.nx_script.specs.declared.command.TextBody.TheVariants as content
 use Rattle.nx_script.specs.declared.command.Command.{Command}
-use Rattle.nx_script.specs.declared.command.Command.TheVariants.{Load, Discard, Names, Export, Insert, Delete, Retext, Get, Layout, SetRule, Rules, Checkpoint, Bad}
+use Rattle.nx_script.specs.declared.command.Command.TheVariants.{Load, Discard, Rename, Names, Export, Insert, Delete, Retext, Get, Layout, SetRule, Rules, Checkpoint, Begin, Commit, Bad}
 use Rattle.nx_script.specs.declared.reply.DocLine.{DocLine}
 use Rattle.nx_script.specs.declared.reply.Reply.{Reply}
 use Rattle.nx_script.specs.declared.reply.Reply.TheVariants as reply
@@ -79,6 +79,7 @@ document_line entry = record { name = entry.0; nodes = 1 + nodes entry.1.below }
 abbrev pub reply_to : Documents → Command → Reply
 reply_to documents (Load name body) = if contains_key documents name then reply.Refused Exists else loaded body
 reply_to documents (Discard name) = by_document documents name (λ _. reply.Done)
+reply_to documents (Rename old new) = by_document documents old (λ _. if contains_key documents new then reply.Refused Exists else reply.Done)
 reply_to documents Names = reply.Names (map document_line (entries documents))
 reply_to documents (Export name) = by_document documents name (λ tree. reply.Exported (text tree))
 reply_to documents (Insert name path body) = by_document documents name (λ tree. done_unless (insert_fault path body tree))
@@ -89,6 +90,8 @@ reply_to documents (Layout name) = reply.Refused Syntax
 reply_to documents (SetRule rule) = reply.Refused Syntax
 reply_to documents Rules = reply.Refused Syntax
 reply_to documents Checkpoint = reply.Refused Syntax
+reply_to documents (Begin bare) = reply.Refused Syntax
+reply_to documents Commit = reply.Refused Syntax
 reply_to documents Bad = reply.Refused Syntax
 
 -- the documents after an edit of one, unless there is none of that name or it is refused
@@ -96,11 +99,16 @@ abbrev pub documents_edited : Documents → List ℕ → (OrderedTree → Option
 documents_edited documents name fault change =
     option_map_or (λ tree. if is_none (fault tree) then insert documents name (change tree) else documents) (get documents name) documents
 
+-- the documents with that of the old name under the new one, where there is one
+abbrev pub documents_renamed : Documents → List ℕ → List ℕ → Documents
+documents_renamed documents old new = option_map_or (insert (remove documents old) new) (get documents old) documents
+
 -- the documents after a command
 abbrev pub documents_after : Documents → Command → Documents
 documents_after documents (Load name (load.Read tree)) = if contains_key documents name then documents else insert documents name tree
 documents_after documents (Load name (load.Wrong error)) = documents
 documents_after documents (Discard name) = remove documents name
+documents_after documents (Rename old new) = if contains_key documents new then documents else documents_renamed documents old new
 documents_after documents (Insert name path (line.Read node)) = documents_edited documents name (insert_fault path (line.Read node)) (put node path)
 documents_after documents (Insert name path (line.Wrong error)) = documents
 documents_after documents (Delete name path) = documents_edited documents name (delete_fault path) (cut_at path)

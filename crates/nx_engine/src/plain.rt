@@ -10,7 +10,8 @@ use nx_lists::LONGEST_NODE;
 use nx_pyx::{PyxError, PyxFault, write};
 use nx_script::{Command, DocLine, DocLines, LineBody, LoadBody, Reply, ReplyError, TextBody};
 use nx_tree::{
-    Bytes, NoMemory, Node, Path, Tree, TreeError, count, delete_at, insert_at, node_at, retext_at,
+    Bytes, NoMemory, Node, Path, Tree, TreeError, copy, count, delete_at, insert_at, node_at,
+    retext_at,
 };
 use std::alloc::Global;
 use std::collections::BTreeMap;
@@ -66,6 +67,7 @@ impl Plain {
         match command {
             Command::Load { name, body } => self.load(name, body),
             Command::Discard { name } => Ok(self.discard(&name)),
+            Command::Rename { old, new } => self.rename(&old, new),
             Command::Names => self.names(),
             Command::Export { name } => self.export(&name),
             Command::Insert { name, path, line } => self.insert(&name, &path, line),
@@ -76,6 +78,8 @@ impl Plain {
             | Command::SetRule { .. }
             | Command::Rules
             | Command::Checkpoint
+            | Command::Begin { .. }
+            | Command::Commit
             | Command::Bad => Ok(Reply::Refused(ReplyError::Syntax)),
         }
     }
@@ -118,6 +122,27 @@ impl Plain {
             Some(_) => Reply::Done,
             None => Reply::Refused(ReplyError::NoDocument),
         }
+    }
+
+    fn rename(&mut self, old: &Bytes, new: Bytes) -> Result<Reply, NoMemory>
+        ensures reply { IfOk result (λ reply. reply ≡ reply_to self.old (Command.Rename old.now new)) }
+        ensures ok { OnOk result (self.new ≡ documents_after self.old (Command.Rename old.now new)) }
+        ensures err { OnErr result (self.new ≡ self.old) }
+    {
+        let Some(tree) = self.documents.get(old.as_slice()) else {
+            return Ok(Reply::Refused(ReplyError::NoDocument));
+        };
+        if self.documents.contains_key(new.as_slice()) {
+            let already = Reply::Refused(ReplyError::Exists);
+            return Ok(already);
+        }
+        // A copy, so that the documents stay where no memory is left for the new name.
+        let Ok(copied) = copy(self.alloc, tree) else {
+            return Err(NoMemory);
+        };
+        self.documents.insert(new.into_vec(), copied)?;
+        self.documents.remove(old.as_slice());
+        Ok(Reply::Done)
     }
 
     fn names(&self) -> Result<Reply, NoMemory>

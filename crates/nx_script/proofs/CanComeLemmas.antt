@@ -1,5 +1,5 @@
 -- What a command of a script holds could be read.
-use Rattle.std.proofs.Common.{◌≡◌, ℕ, ◌+◌, ◌≤◌, Bool, true, false, List, [], ◌∷◌, ◌++◌, length, ⊎_elim, Option, None, Some, IfSome, refl, sym, subst, arith}
+use Rattle.std.proofs.Common.{◌≡◌, ℕ, ◌+◌, ◌≤◌, Bool, true, false, List, [], ◌∷◌, ◌++◌, length, ⊎_elim, Option, None, Some, IfSome, refl, sym, subst, arith, take}
 use Rattle.std.specs.Prelude.{if◌then◌else◌, ◌==◌, ◌&&◌, not, nat_lt, All, IsTrue, codes}
 use Rattle.std.specs.Bool.{MatchBool}
 use Rattle.std.specs.Option.{option_map, option_map_or, unwrap_or, is_none}
@@ -21,14 +21,15 @@ use Rattle.nx_script.specs.declared.command.LineBody.{LineBody}
 use Rattle.nx_script.specs.declared.command.LineBody.TheVariants as line
 use Rattle.nx_script.specs.declared.command.TextBody.TheVariants as content
 use Rattle.nx_script.specs.declared.command.Command.{Command}
-use Rattle.nx_script.specs.declared.command.Command.TheVariants.{Load, Discard, Names, Export, Insert, Delete, Retext, Get, Layout, SetRule, Rules, Checkpoint, Bad}
+use Rattle.nx_script.specs.declared.command.Command.TheVariants.{Load, Discard, Rename, Names, Export, Insert, Delete, Retext, Get, Layout, SetRule, Rules, Checkpoint, Begin, Commit, Bad}
 use Rattle.nx_script.specs.declared.script.Script.{Script}
 use Rattle.nx_script.specs.Script.{HasGiven}
 use Rattle.nx_script.proofs.ScriptLemmas.{HasLooked, looked}
 use Rattle.nx_pyx.specs.Field.{field, behind_space}
-use Rattle.nx_script.specs.Field.{is_document_name}
-use Rattle.nx_script.specs.Rule.{HasLabels, is_parent_label, is_child_label, entry_named, rule_by, rule_of}
-use Rattle.nx_script.specs.Line.{longest_line, line_body, place_said, ends_there, insert_at, retext_at, lone_command, command_by, command_of}
+use Rattle.nx_pyx.specs.DocumentName.{is_document_name}
+use Rattle.nx_matrix.specs.RuleLabels.{HasLabels, is_parent_label, is_child_label}
+use Rattle.nx_script.specs.Rule.{entry_named, rule_by, rule_of}
+use Rattle.nx_script.specs.Line.{longest_line, line_body, place_said, ends_there, insert_at, retext_at, lone_command, rename_by, command_by, command_of}
 use Rattle.nx_script.specs.Commands.{begins_load, has_dot, as_document_name, loaded_name, IsLoadCommand, IsWholeCommand, SplitsInto, cut_off, AreCommands, CanCome}
 
 -- what holds of both ways holds of the one that is taken
@@ -152,16 +153,27 @@ rule_of-labels bytes =
     any_option AreLabels (λ more. option_map_or (rule_by (field bytes) (field more)) (behind_space more) None) (behind_space bytes)
     (λ more. any_option AreLabels (rule_by (field bytes) (field more)) (behind_space more) (λ word. rule_by-labels (field bytes) (field more) word) tt) tt
 
+rename_can : (rest : List ℕ) → CanCome (rename_by rest)
+rename_can rest =
+    any_option CanCome (λ new. if is_document_name (field rest) && is_document_name new then Rename (field rest) new else Bad) (behind_space rest)
+    (λ new. by_names new (is_document_name (field rest)) (is_document_name new) refl) tt
+  where
+    by_names : (new : List ℕ) (a b : Bool) → is_document_name new ≡ b → CanCome (if a && b then Rename (field rest) new else Bad)
+    by_names new true true is = is
+    by_names new true false is = tt
+    by_names new false b is = tt
+
 -- what a line says could be read
 pub command_can : (bytes : List ℕ) → CanCome (command_of bytes)
 command_can bytes =
-    either_way CanCome (nat_lt longest_line (length bytes)) tt
-    (any_option CanCome (command_by (field bytes)) (behind_space bytes) (λ rest. by_word (field bytes) rest) (lone_can bytes))
+    either_way CanCome (nat_lt longest_line (length bytes)) (either_way CanCome (bytes_eq (take 6 bytes) (codes "begin ")) tt tt)
+    (any_option CanCome (command_by (field bytes)) (behind_space bytes) (λ rest. by_word (field bytes) rest) (lone_can (field bytes)))
   where
     lone_can : (word : List ℕ) → CanCome (lone_command word)
     lone_can word =
         either_way CanCome (bytes_eq word (codes "names")) tt
-        (either_way CanCome (bytes_eq word (codes "rules")) tt (either_way CanCome (bytes_eq word (codes "checkpoint")) tt tt))
+        (either_way CanCome (bytes_eq word (codes "rules")) tt (either_way CanCome (bytes_eq word (codes "checkpoint")) tt
+        (either_way CanCome (bytes_eq word (codes "begin")) tt (either_way CanCome (bytes_eq word (codes "commit")) tt tt))))
 
     rule_can : (found : Option Rule) → AreLabels found → CanCome (option_map_or SetRule found Bad)
     rule_can None labels = tt
@@ -170,6 +182,7 @@ command_can bytes =
     by_word : (word rest : List ℕ) → CanCome (command_by word rest)
     by_word word rest =
         either_way CanCome (bytes_eq word (codes "drop")) (either_way CanCome (is_document_name rest) tt tt)
+        (either_way CanCome (bytes_eq word (codes "rename")) (rename_can rest)
         (either_way CanCome (bytes_eq word (codes "export")) (either_way CanCome (is_document_name rest) tt tt)
         (either_way CanCome (bytes_eq word (codes "insert"))
         (any_option CanCome insert_at (place_said rest)
@@ -183,7 +196,8 @@ command_can bytes =
         (any_option CanCome (ends_there Get) (place_said rest) (λ place. either_way CanCome (is_none place.last) tt tt) tt)
         (either_way CanCome (bytes_eq word (codes "layout")) (either_way CanCome (is_document_name rest) tt tt)
         (either_way CanCome (bytes_eq word (codes "rule")) (rule_can (rule_of rest) (rule_of-labels rest))
-        tt)))))))
+        (either_way CanCome (bytes_eq word (codes "begin")) tt
+        tt)))))))))
 
 -- the name of a `load` line is one of a document
 loaded_name-valid : (head name : List ℕ) → loaded_name head ≡ Some name → IsTrue (is_document_name name)
@@ -206,6 +220,7 @@ load_can head body (Load name (load.Read tree)) loads = (loaded_name-valid head 
 load_can head body (Load name (load.Wrong error)) loads = (loaded_name-valid head name loads.0, tt)
 load_can head body Bad loads = tt
 load_can head body (Discard name) loads = tt
+load_can head body (Rename old new) loads = absurd loads
 load_can head body Names loads = tt
 load_can head body (Export name) loads = tt
 load_can head body (Insert name path said) loads = absurd loads
@@ -216,6 +231,8 @@ load_can head body (Layout name) loads = tt
 load_can head body (SetRule rule) loads = absurd loads
 load_can head body Rules loads = tt
 load_can head body Checkpoint loads = tt
+load_can head body (Begin bare) loads = tt
+load_can head body Commit loads = tt
 
 whole_can : (own : List (List ℕ)) (command : Command) → IsWholeCommand own command → CanCome command
 whole_can [] command whole = absurd whole
@@ -244,15 +261,16 @@ pub last_can : (commands : List Command) (command : Command) → All CanCome (co
 last_can [] command all = All-head CanCome command [] all
 last_can (c ∷ commands) command all = last_can commands command (All-tail CanCome c (commands ++ command ∷ []) all)
 
--- a command that a script has given
-pub given_can : (script : Script) (taken : List ℕ) (commands : List Command) (command : Command) → HasGiven script taken (commands ++ command ∷ []) → CanCome command
-given_can script taken commands command given =
+-- the commands that a script has given
+pub all_can : (script : Script) (taken : List ℕ) (commands : List Command) → HasGiven script taken commands → All CanCome commands
+all_can script taken commands given =
     ⊎_elim
     (λ (finished : script.finished ≡ true).
-    last_can commands command
-    (commands_can taken (commands ++ command ∷ [])
-    (MatchBool-at_true (AreCommands taken (commands ++ command ∷ [])) (HasLooked script taken (commands ++ command ∷ [])) finished given.given)))
+    commands_can taken commands (MatchBool-at_true (AreCommands taken commands) (HasLooked script taken commands) finished given.given))
     (λ (unfinished : script.finished ≡ false).
-    let (seen, parts, parsed) = looked script taken (commands ++ command ∷ []) unfinished given in
-    last_can commands command (gives_can _ (commands ++ command ∷ []) parsed.rest parsed.gives))
+    let (seen, parts, parsed) = looked script taken commands unfinished given in gives_can _ commands parsed.rest parsed.gives)
     (cases_Bool script.finished)
+
+-- one of them
+pub given_can : (script : Script) (taken : List ℕ) (commands : List Command) (command : Command) → HasGiven script taken (commands ++ command ∷ []) → CanCome command
+given_can script taken commands command given = last_can commands command (all_can script taken (commands ++ command ∷ []) given)

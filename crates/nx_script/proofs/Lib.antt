@@ -11,3 +11,5 @@ pub mod CanComeLemmas
 pub mod BodyLemmas
 pub mod OneList
 pub mod ReplyLemmas
+pub mod RequestLemmas
+pub mod OneRequestList

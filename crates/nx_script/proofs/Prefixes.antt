@@ -7,10 +7,10 @@ use Rattle.std.proofs.lemmas.Bool.{cases_lt, and_parts, eqb-true, lt-ltb, false_
 use Rattle.std.proofs.lemmas.List.{length-take, take-append-le, take_min}
 use Rattle.std.proofs.lemmas.Slice.Eq.{bytes_eq-Decides}
 use Rattle.nx_pyx.specs.Lines.{without_cr}
-use Rattle.nx_script.specs.declared.command.Command.TheVariants.{Bad}
+use Rattle.nx_script.specs.declared.command.Command.TheVariants.{Begin, Bad}
 use Rattle.nx_pyx.specs.Field.{begins_with}
 use Rattle.nx_pyx.proofs.HasRoomLemmas.{one_dropped}
-use Rattle.nx_script.specs.Line.{longest_line, command_of}
+use Rattle.nx_script.specs.Line.{longest_line, said_at_length, command_of}
 use Rattle.nx_script.specs.Commands.{begins_load, loaded_name, is_dot}
 use Rattle.nx_script.specs.Parser.{MeansSame}
 
@@ -93,16 +93,20 @@ long_load a long =
 long_name : (a : List ℕ) → longest_line < length a → loaded_name a ≡ None
 long_name a long = rw (lt-ltb longest_line (length a) long) refl
 
-long_command : (a : List ℕ) → longest_line < length a → command_of a ≡ Bad
+long_command : (a : List ℕ) → longest_line < length a → command_of a ≡ said_at_length a
 long_command a long = rw (lt-ltb longest_line (length a) long) refl
 
 -- lines that are too long and begin alike mean the same
-long_same : (a b : List ℕ) → longest_line < length a → longest_line < length b → take 5 a ≡ take 5 b → MeansSame a b
-long_same a b long also same = record {
-  begins = long_load a long ∙ ap (λ (l : List ℕ). bytes_eq l (codes "load ")) same ∙ sym (long_load b also);
-  name = long_name a long ∙ sym (long_name b also);
-  command = long_command a long ∙ sym (long_command b also);
-}
+long_same : (a b : List ℕ) → longest_line < length a → longest_line < length b → take 6 a ≡ take 6 b → MeansSame a b
+long_same a b long also same =
+    let five : take 5 a ≡ take 5 b = sym (take-take 5 6 a (omega arith)) ∙ ap (take 5) same ∙ take-take 5 6 b (omega arith) in
+    record {
+      begins = long_load a long ∙ ap (λ (l : List ℕ). bytes_eq l (codes "load ")) five ∙ sym (long_load b also);
+      name = long_name a long ∙ sym (long_name b also);
+      command =
+          long_command a long ∙ ap (λ (l : List ℕ). if bytes_eq l (codes "begin ") then Begin false else Bad) same
+          ∙ sym (long_command b also);
+    }
 
 -- so many bytes of a line mean the same as all
 pub means_same : (n : ℕ) (line : List ℕ) → longest_line + 2 ≤ n → MeansSame (without_cr (take n line)) (without_cr line)
@@ -113,7 +117,7 @@ means_same n line enough =
     let first : length (take n line) ≤ length (without_cr (take n line)) + 1 = one_dropped (take n line) in
     let second : length line ≤ length (without_cr line) + 1 = one_dropped line in
     long_same (without_cr (take n line)) (without_cr line) (omega arith) (omega arith)
-    (take-without_cr 5 (take n line) (omega arith) ∙ take-take 5 n line (omega arith) ∙ sym (take-without_cr 5 line (omega arith))))
+    (take-without_cr 6 (take n line) (omega arith) ∙ take-take 6 n line (omega arith) ∙ sym (take-without_cr 6 line (omega arith))))
     (λ (all : length line ≤ n).
     subst (λ (l : List ℕ). MeansSame (without_cr l) (without_cr line)) (sym (take_all n line all))
     (record { begins = refl; name = refl; command = refl }))

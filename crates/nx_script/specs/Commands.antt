@@ -13,10 +13,10 @@ use Rattle.nx_script.specs.declared.command.LoadBody.TheVariants.{Read, Wrong}
 use Rattle.nx_script.specs.declared.command.LineBody.TheVariants as line
 use Rattle.nx_script.specs.declared.command.TextBody.TheVariants as content
 use Rattle.nx_script.specs.declared.command.Command.{Command}
-use Rattle.nx_script.specs.declared.command.Command.TheVariants.{Load, Insert, Retext, SetRule, Bad}
+use Rattle.nx_script.specs.declared.command.Command.TheVariants.{Load, Rename, Insert, Retext, SetRule, Bad}
 use Rattle.nx_pyx.specs.Field.{behind_space}
-use Rattle.nx_script.specs.Field.{is_document_name}
-use Rattle.nx_script.specs.Rule.{HasLabels}
+use Rattle.nx_pyx.specs.DocumentName.{is_document_name}
+use Rattle.nx_matrix.specs.RuleLabels.{HasLabels}
 use Rattle.nx_script.specs.Line.{longest_line, command_of}
 
 -- a line that begins a document, whatever else it says: `load`, and then its end or a space
@@ -89,6 +89,7 @@ CanLoad (Wrong error) = Unit {0}
 -- a command that a script can give: what it holds could be read
 abbrev pub CanCome : Command → Type 0
 CanCome (Load name body) = IsTrue (is_document_name name) × CanLoad body
+CanCome (Rename old new) = IsTrue (is_document_name new)
 CanCome (Insert name path (line.Read node)) = IsNode node
 CanCome (Retext name path (content.Read bytes)) = length bytes ≤ longest_node
 CanCome (SetRule rule) = HasLabels rule

@@ -1,4 +1,3 @@
-pub mod Field
 pub mod Rule
 pub mod Line
 pub mod Commands
@@ -6,6 +5,7 @@ pub mod BeforeDot
 pub mod Body
 pub mod Parser
 pub mod Script
+pub mod Requests
 pub mod Reply
 pub mod Law
 pub mod Whole

@@ -12,6 +12,8 @@ use Rattle.nx_script.specs.declared.reply.ReplyError.TheVariants.{Syntax, NoDocu
 use Rattle.nx_script.specs.declared.reply.DocLine.{DocLine}
 use Rattle.nx_script.specs.declared.reply.Reply.{Reply}
 use Rattle.nx_script.specs.declared.reply.Reply.TheVariants.{Done, Loaded, Shown, Names, Exported, Laid, Rules, Refused}
+use Rattle.nx_script.specs.declared.request.Answer.{Answer}
+use Rattle.nx_script.specs.declared.request.Answer.TheVariants as answer
 use Rattle.nx_script.specs.Rule.{entry_word}
 
 -- why a command is refused, in words
@@ -57,3 +59,9 @@ reply_text (Exported text) = text ++ codes ".\n"
 reply_text (Laid parts weights) = flat_map interval_line (zip parts weights) ++ codes ".\n"
 reply_text (Rules rules) = flat_map rule_line rules ++ codes ".\n"
 reply_text (Refused error) = codes "error " ++ cause error ++ codes "\n"
+
+-- what a request is answered: a transaction that was carried out by the replies to its commands and a dot, one that wasn't by a line
+abbrev pub answered_text : Answer → List ℕ
+answered_text (answer.One reply) = reply_text reply
+answered_text (answer.All replies) = flat_map reply_text replies ++ codes ".\n"
+answered_text (answer.RefusedAt number error) = codes "error at " ++ decimal number ++ codes " " ++ cause error ++ codes "\n"

@@ -42,6 +42,11 @@ pub enum Command {
     Discard {
         name: Bytes,
     },
+    /// Keep the document of the old name under the new one, which is new.
+    Rename {
+        old: Bytes,
+        new: Bytes,
+    },
     /// List the documents.
     Names,
     /// Give a document's canonical text.
@@ -83,6 +88,12 @@ pub enum Command {
     Rules,
     /// Empty the log.
     Checkpoint,
+    /// Begin a transaction. It is none where it isn't `bare`: words stand behind the `begin`.
+    Begin {
+        bare: bool,
+    },
+    /// End a transaction.
+    Commit,
     /// A line, or a `load` with its lines, that is no command.
     Bad,
 }

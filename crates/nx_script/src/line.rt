@@ -1,17 +1,17 @@
 // What one line says.
 ghost use Rattle.std.specs.Prelude.{◌≡◌, if◌then◌else◌, None, Some, MatchOption, IfOk};
 ghost use Rattle.std.specs.Option.{option_map_or};
-ghost use Rattle.nx_script.specs.Field.{is_document_name};
-ghost use Rattle.nx_script.specs.Line.{line_body, text_body, place_said, place_in, insert_at, retext_at, ends_there, lone_command, command_by, command_of};
+ghost use Rattle.nx_pyx.specs.DocumentName.{is_document_name};
+ghost use Rattle.nx_script.specs.Line.{line_body, text_body, place_said, place_in, insert_at, retext_at, ends_there, lone_command, rename_by, command_by, said_at_length, command_of};
 ghost use Rattle.nx_script.specs.Rule.{rule_of};
 ghost use Rattle.nx_script.specs.Commands.{begins_load, is_dot, loaded_name};
 
-use crate::field::is_document_name;
 use crate::rule::read_rule;
 use crate::{Command, LineBody, TextBody};
 use nx_lists::LONGEST_NODE;
 use nx_pyx::{
-    PyxError, PyxFault, ReadError, line_node, path, split_field, unescaped, unescaped_len,
+    PyxError, PyxFault, ReadError, is_document_name, line_node, path, split_field, unescaped,
+    unescaped_len,
 };
 use nx_tree::{Bytes, NoMemory, Path};
 use std::alloc::Global;
@@ -58,11 +58,22 @@ pub fn parse(alloc: Global, line: &[u8]) -> Result<Command, NoMemory>
     ensures { IfOk result (λ command. command ≡ command_of line.now) }
 {
     if line.len() > LONGEST_LINE {
-        return Ok(Command::Bad);
+        return Ok(said_at_length(line));
     }
     match split_field(line) {
         (word, Some(rest)) => command(alloc, word, rest),
         (word, None) => Ok(lone_command(word)),
+    }
+}
+
+// What a line that is too long says: it may begin a transaction, and is no command else.
+fn said_at_length(line: &[u8]) -> Command
+    ensures { result ≡ said_at_length line.now }
+{
+    if line.starts_with(b"begin ".as_slice()) {
+        Command::Begin { bare: false }
+    } else {
+        Command::Bad
     }
 }
 
@@ -76,6 +87,10 @@ fn lone_command(word: &[u8]) -> Command
         Command::Rules
     } else if word == b"checkpoint".as_slice() {
         Command::Checkpoint
+    } else if word == b"begin".as_slice() {
+        Command::Begin { bare: true }
+    } else if word == b"commit".as_slice() {
+        Command::Commit
     } else {
         Command::Bad
     }
@@ -87,6 +102,8 @@ fn command(alloc: Global, word: &[u8], rest: &[u8]) -> Result<Command, NoMemory>
 {
     if word == b"drop".as_slice() {
         discard(alloc, rest)
+    } else if word == b"rename".as_slice() {
+        rename(alloc, rest)
     } else if word == b"export".as_slice() {
         export(alloc, rest)
     } else if word == b"insert".as_slice() {
@@ -101,6 +118,8 @@ fn command(alloc: Global, word: &[u8], rest: &[u8]) -> Result<Command, NoMemory>
         layout(alloc, rest)
     } else if word == b"rule".as_slice() {
         set_rule(alloc, rest)
+    } else if word == b"begin".as_slice() {
+        Ok(Command::Begin { bare: false })
     } else {
         Ok(Command::Bad)
     }
@@ -114,6 +133,20 @@ fn discard(alloc: Global, rest: &[u8]) -> Result<Command, NoMemory>
     }
     let name = Bytes::from_slice(alloc, rest)?;
     Ok(Command::Discard { name })
+}
+
+fn rename(alloc: Global, rest: &[u8]) -> Result<Command, NoMemory>
+    ensures { IfOk result (λ command. command ≡ rename_by rest.now) }
+{
+    let (old, Some(new)) = split_field(rest) else {
+        return Ok(Command::Bad);
+    };
+    if !is_document_name(old) || !is_document_name(new) {
+        return Ok(Command::Bad);
+    }
+    let old = Bytes::from_slice(alloc, old)?;
+    let new = Bytes::from_slice(alloc, new)?;
+    Ok(Command::Rename { old, new })
 }
 
 fn export(alloc: Global, rest: &[u8]) -> Result<Command, NoMemory>

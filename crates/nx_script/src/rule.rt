@@ -1,9 +1,9 @@
 // The rules that a script can say.
 ghost use Rattle.std.specs.Prelude.{◌≡◌, IfOk};
-ghost use Rattle.nx_script.specs.Rule.{is_marked_name, is_parent_label, is_child_label, entry_word, entry_named, rule_of};
+ghost use Rattle.nx_script.specs.Rule.{entry_word, entry_named, rule_of};
 
-use nx_matrix::{Entry, LONGEST_LABEL, Rule};
-use nx_pyx::{is_name, split_field};
+use nx_matrix::{Entry, Rule, is_child_label, is_parent_label};
+use nx_pyx::split_field;
 use nx_tree::{Bytes, NoMemory};
 use std::alloc::Global;
 
@@ -54,32 +54,5 @@ fn entry_named(word: &[u8]) -> Option<Entry>
         Some(Entry::Free)
     } else {
         None
-    }
-}
-
-/// Whether a rule may be for parents of this label: `#doc` or a name, of at most 1,024 bytes. It takes
-/// no memory.
-pub fn is_parent_label(label: &[u8]) -> bool
-    ensures { result ≡ is_parent_label label.now }
-{
-    label.len() <= LONGEST_LABEL && (label == b"#doc".as_slice() || is_name(label))
-}
-
-/// Whether a rule may be for children of this label: `#text`, a name, or a name behind `@` or `?`, of
-/// at most 1,024 bytes in all. It takes no memory.
-pub fn is_child_label(label: &[u8]) -> bool
-    ensures { result ≡ is_child_label label.now }
-{
-    label.len() <= LONGEST_LABEL
-        && (label == b"#text".as_slice() || is_name(label) || is_marked_name(label))
-}
-
-// Whether the bytes are a name behind `@` or `?`.
-fn is_marked_name(label: &[u8]) -> bool
-    ensures { result ≡ is_marked_name label.now }
-{
-    match label.split_first() {
-        None => false,
-        Some((mark, name)) => matches!(*mark, b'@' | b'?') && is_name(name),
     }
 }

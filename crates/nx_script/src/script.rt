@@ -84,6 +84,7 @@ impl Script {
         ensures none { result ≡ Ok None → (taken : List ℕ) (commands : List Command) → HasGiven self.old taken commands →
             HasGiven self.new taken commands × MatchBool self.new.ended (AreCommands taken commands) (AreWhole taken commands) }
         ensures drained { result ≡ Ok None → IsDrained self.new }
+        ensures finished { result ≡ Ok None → self.new.ended ≡ true → self.new.finished ≡ true }
         ensures less { IfOk result (λ next. IfSome next (λ _. work_left self.new < work_left self.old)) }
         ensures err { IfErr result (λ error. error ≡ Memory) }
         ensures taken { self.new.input.taken ≡ self.old.input.taken }

@@ -2,10 +2,10 @@
 ghost use Rattle.std.specs.Prelude.{◌≡◌, ℕ, List, ◌++◌, OnOk, OnErr, IfOk};
 ghost use Rattle.std.specs.Prelude.{codes};
 ghost use Rattle.std.specs.List.{flat_map, zip};
-ghost use Rattle.nx_script.specs.Reply.{cause, doc_line, interval_text, interval_line, rule_line, reply_text};
+ghost use Rattle.nx_script.specs.Reply.{cause, doc_line, interval_text, interval_line, rule_line, reply_text, answered_text};
 
 use crate::rule::entry_word;
-use crate::{DocLine, DocLines, Reply, ReplyError};
+use crate::{Answer, DocLine, DocLines, Reply, ReplyError};
 use nx_matrix::{Rule, Rules};
 use nx_parts::{Interval, Partitioning};
 use nx_pyx::{PyxError, push_node_line, push_number, push_path};
@@ -37,6 +37,60 @@ pub fn push_reply(block: &mut Bytes, reply: &Reply) -> Result<(), NoMemory>
         block.truncate(len);
     }
     pushed
+}
+
+/// The text of an answer: its lines, each with its LF.
+///
+/// Errors: `NoMemory`.
+pub fn write_answer(alloc: Global, answer: &Answer) -> Result<Bytes, NoMemory>
+    ensures { IfOk result (λ text. text ≡ answered_text answer.now) }
+{
+    let mut text = Bytes::new(alloc);
+    push_answer_text(&mut text, answer)?;
+    Ok(text)
+}
+
+/// Adds the text of an answer to the block. Want of memory leaves the block as it was.
+///
+/// Errors: `NoMemory`.
+pub fn push_answer(block: &mut Bytes, answer: &Answer) -> Result<(), NoMemory>
+    ensures ok { OnOk result (block.new ≡ block.old ++ answered_text answer.now) }
+    ensures err { OnErr result (block.new ≡ block.old) }
+{
+    let len = block.len();
+    let pushed = push_answer_text(block, answer);
+    if pushed.is_err() {
+        block.truncate(len);
+    }
+    pushed
+}
+
+// Adds the text of an answer. Want of memory may leave a part of it behind what the block had.
+fn push_answer_text(block: &mut Bytes, answer: &Answer) -> Result<(), NoMemory>
+    ensures ok { OnOk result (block.new ≡ block.old ++ answered_text answer.now) }
+    ensures prefix { (bytes : List ℕ) × (block.new ≡ block.old ++ bytes) }
+{
+    match answer {
+        Answer::One(reply) => push_text(block, reply),
+        Answer::All(replies) => push_replies(block, replies.as_slice()),
+        Answer::RefusedAt { number, error } => {
+            push_number(block, b"error at ", *number)?;
+            block.push(b' ')?;
+            push_cause(block, error)?;
+            block.push(b'\n')
+        }
+    }
+}
+
+// Adds the texts of replies, and a dot.
+fn push_replies(block: &mut Bytes, replies: &[Reply]) -> Result<(), NoMemory>
+    ensures ok { OnOk result (block.new ≡ block.old ++ (flat_map reply_text replies.now ++ codes ".\n")) }
+    ensures prefix { (bytes : List ℕ) × (block.new ≡ block.old ++ bytes) }
+{
+    for reply in replies {
+        push_text(block, reply)?;
+    }
+    block.extend_from_slice(b".\n")
 }
 
 // Adds the text of a reply. Want of memory may leave a part of it behind what the block had.

@@ -7,11 +7,11 @@ use Rattle.std.specs.FinMap.{get, remove, get-insert, get-remove}
 use Rattle.nx_parts.specs.Partitioning.{IsFeasible}
 use Rattle.nx_cuts.specs.Cut.{CutTree, AreParts, tree_of, parts_of}
 use Rattle.nx_cuts.proofs.PartitionLemmas.{drawn_feasible}
-use Rattle.nx_script.specs.Field.{name_order}
+use Rattle.nx_pyx.specs.DocumentName.{name_order}
 use Rattle.nx_script.specs.declared.command.LoadBody.TheVariants as load
 use Rattle.nx_script.specs.declared.command.LineBody.TheVariants as line
 use Rattle.nx_script.specs.declared.command.TextBody.TheVariants as content
-use Rattle.nx_script.specs.declared.command.Command.TheVariants.{Load, Discard, Names, Export, Insert, Delete, Retext, Get, Layout, SetRule, Rules, Checkpoint, Bad}
+use Rattle.nx_script.specs.declared.command.Command.TheVariants.{Load, Discard, Rename, Names, Export, Insert, Delete, Retext, Get, Layout, SetRule, Rules, Checkpoint, Begin, Commit, Bad}
 use Rattle.nx_script.specs.declared.command.Command.{Command}
 use Rattle.nx_script.specs.declared.reply.Reply.{Reply}
 use Rattle.nx_script.specs.declared.reply.ReplyError.{ReplyError}
@@ -23,7 +23,7 @@ use Rattle.nx_steps.specs.Answers.{Refuses, with_document}
 use Rattle.nx_steps.specs.Step.{Edits, Effect, FindsNoRoom}
 use Rattle.nx_steps.specs.Refusal.{refusal}
 use Rattle.nx_steps.specs.Sound.{OfEachDocument, AreFeasible}
-use Rattle.nx_steps.specs.Laws.{StepsStayFeasible, StepsStayPartitioned}
+use Rattle.nx_steps.specs.Laws.{ArePartitioned, StepsStayFeasible, StepsStayPartitioned}
 use Rattle.nx_steps.proofs.StoredLemmas.{one_name}
 
 same_document : (a b : CutTree) → Some a ≡ Some b → a ≡ b
@@ -57,6 +57,10 @@ effect_feasible state (Load name (load.Read tree)) r next feasible effect =
     subst AreFeasible (sym effect.next_is) (each_with (λ q document. AreParts (state.settings).k (whole_document document)) state name effect.document feasible effect.drawn)
 effect_feasible state (Discard name) r next feasible effect =
     subst AreFeasible (sym effect.1) (each_without (λ q document. AreParts (state.settings).k (whole_document document)) state name feasible)
+effect_feasible state (Rename old new) r next feasible effect =
+    let P : List ℕ → CutTree → Type 0 = λ q document. AreParts (state.settings).k (whole_document document) in
+    let without : State = record state { documents = remove state.documents old } in
+    subst AreFeasible (sym effect.1.next_is) (each_with P without new effect.1.document (each_without P state old feasible) (feasible old effect.1.document effect.1.there))
 effect_feasible state Names r next feasible effect = subst AreFeasible (sym effect.1) feasible
 effect_feasible state (Export name) r next feasible effect = subst AreFeasible (sym effect.1) feasible
 effect_feasible state (Insert name path (line.Wrong error)) r next feasible effect = absurd effect
@@ -75,6 +79,8 @@ effect_feasible state (Layout name) r next feasible effect = subst AreFeasible (
 effect_feasible state (SetRule rule) r next feasible effect = subst AreFeasible (sym effect.1.next_is) feasible
 effect_feasible state Rules r next feasible effect = subst AreFeasible (sym effect.1) feasible
 effect_feasible state Checkpoint r next feasible effect = subst AreFeasible (sym effect.1) feasible
+effect_feasible state (Begin bare) r next feasible effect = absurd effect
+effect_feasible state Commit r next feasible effect = absurd effect
 effect_feasible state Bad r next feasible effect = absurd effect
 
 -- a command has its effect, or changes nothing
@@ -91,5 +97,8 @@ step_feasible state command r next feasible step =
 drawn_partitioned : (k : ℕ) (document : CutTree) → AreParts k (whole_document document) → IsFeasible k (tree_of document) (parts_of document)
 drawn_partitioned k document h = drawn_feasible k document (let x = h.2 in omega arith) h.3.0
 
+pub feasible_partitioned : (state : State) → AreFeasible state → ArePartitioned state
+feasible_partitioned state feasible = λ q document there. drawn_partitioned (state.settings).k document (feasible q document there)
+
 pub step_partitioned : StepsStayPartitioned
-step_partitioned state command r next feasible step = λ q document there. drawn_partitioned (next.settings).k document (step_feasible state command r next feasible step q document there)
+step_partitioned state command r next feasible step = feasible_partitioned next (step_feasible state command r next feasible step)

@@ -7,3 +7,5 @@ pub mod SoundLemmas
 pub mod RunLemmas
 pub mod AgreeLemmas
 pub mod CountLemmas
+pub mod RequestLemmas
+pub mod RequestAgreeLemmas

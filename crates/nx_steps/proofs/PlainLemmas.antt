@@ -17,7 +17,7 @@ use Rattle.nx_script.specs.declared.command.LineBody.TheVariants as line
 use Rattle.nx_script.specs.declared.command.TextBody.{TextBody}
 use Rattle.nx_script.specs.declared.command.TextBody.TheVariants as content
 use Rattle.nx_script.specs.declared.command.Command.{Command}
-use Rattle.nx_script.specs.declared.command.Command.TheVariants.{Load, Discard, Names, Export, Insert, Delete, Retext, Get, Layout, SetRule, Rules, Checkpoint, Bad}
+use Rattle.nx_script.specs.declared.command.Command.TheVariants.{Load, Discard, Rename, Names, Export, Insert, Delete, Retext, Get, Layout, SetRule, Rules, Checkpoint, Begin, Commit, Bad}
 use Rattle.nx_script.specs.declared.reply.Reply.{Reply}
 use Rattle.nx_script.specs.declared.reply.Reply.TheVariants as reply
 use Rattle.nx_script.specs.declared.reply.ReplyError.{ReplyError}
@@ -73,7 +73,7 @@ mapped : {Y : Type 0} (f : OrderedTree → Y) (o : Option CutTree) (d : Y) → o
 mapped f None d = refl
 mapped f (Some c) d = refl
 
-fault-trees : (state : State) (name : List ℕ) (fault : OrderedTree → Option ReplyError) → document_fault state name fault ≡ option_map_or fault (get (trees state) name) (Some NoDocument)
+pub fault-trees : (state : State) (name : List ℕ) (fault : OrderedTree → Option ReplyError) → document_fault state name fault ≡ option_map_or fault (get (trees state) name) (Some NoDocument)
 fault-trees state name fault = mapped fault (get state.documents name) (Some NoDocument) ∙ ap (λ o. option_map_or fault o (Some NoDocument)) (sym (get-trees state name))
 
 -- a document's command is refused so
@@ -99,6 +99,10 @@ load_refused true k body error e = inl (ap reply.Refused (same_error Exists erro
 load_refused false k (load.Wrong w) error e = inl (ap reply.Refused (same_error (Pyx w) error e))
 load_refused false k (load.Read tree) error e = inr (heavy_limit k tree error e)
 
+named_already : (b : Bool) (error : ReplyError) → (if b then Some Exists else None) ≡ Some error → (if b then reply.Refused Exists else reply.Done) ≡ reply.Refused error
+named_already true error e = ap reply.Refused (same_error Exists error e)
+named_already false error e = cc
+
 nowhere : (o : Option OrderedTree) (error : ReplyError) → (if is_some o then None else Some NoNode) ≡ Some error → option_map_or shown o (reply.Refused NoNode) ≡ reply.Refused error
 nowhere None error e = ap reply.Refused (same_error NoNode error e)
 nowhere (Some t) error e = cc
@@ -111,6 +115,10 @@ refused_reply state (Load name body) error p e =
     subst (λ (b : Bool). ((if b then reply.Refused Exists else loaded body) ≡ reply.Refused error) ⊎ IsLimit error) (sym (contains-trees state name))
     (load_refused (contains_key state.documents name) (state.settings).k body error e)
 refused_reply state (Discard name) error p e = by_fault state name (λ tree. None) (λ tree. reply.Done) error (λ tree f. absurd (no_fault error f)) e
+refused_reply state (Rename old new) error p e =
+    subst (λ (b : Bool). (plain.by_document (trees state) old (λ tree. if b then reply.Refused Exists else reply.Done) ≡ reply.Refused error) ⊎ IsLimit error) (sym (contains-trees state new))
+    (by_fault state old (λ tree. if contains_key state.documents new then Some Exists else None) (λ tree. if contains_key state.documents new then reply.Refused Exists else reply.Done) error
+    (λ tree f. inl (named_already (contains_key state.documents new) error f)) e)
 refused_reply state Names error p e = absurd (no_fault error e)
 refused_reply state (Export name) error p e = by_fault state name (λ tree. None) (λ tree. reply.Exported (text tree)) error (λ tree f. absurd (no_fault error f)) e
 refused_reply state (Insert name path said) error p e =
@@ -126,12 +134,15 @@ refused_reply state (Layout name) error p e = cc
 refused_reply state (SetRule rule) error p e = cc
 refused_reply state Rules error p e = cc
 refused_reply state Checkpoint error p e = cc
+refused_reply state (Begin bare) error p e = inl (ap reply.Refused (same_error Syntax error e))
+refused_reply state Commit error p e = inl (ap reply.Refused (same_error Syntax error e))
 refused_reply state Bad error p e = inl (ap reply.Refused (same_error Syntax error e))
 
 -- what is refused so leaves the trees
 after_left : (documents : Documents) (command : Command) (error : ReplyError) → (is_plain command ≡ true → reply_to documents command ≡ reply.Refused error) → documents_after documents command ≡ documents
 after_left documents (Load name body) error h = refused_after documents (Load name body) error (h refl)
 after_left documents (Discard name) error h = refused_after documents (Discard name) error (h refl)
+after_left documents (Rename old new) error h = refused_after documents (Rename old new) error (h refl)
 after_left documents Names error h = refl
 after_left documents (Export name) error h = refl
 after_left documents (Insert name path said) error h = refused_after documents (Insert name path said) error (h refl)
@@ -142,6 +153,8 @@ after_left documents (Layout name) error h = refl
 after_left documents (SetRule rule) error h = refl
 after_left documents Rules error h = refl
 after_left documents Checkpoint error h = refl
+after_left documents (Begin bare) error h = refl
+after_left documents Commit error h = refl
 after_left documents Bad error h = refl
 
 -- a document's command is answered so, where it has no fault
@@ -177,6 +190,10 @@ effect_reply state (Load name (load.Read tree)) r next p none effect =
     ap plain_reply effect.answered
     ∙ ap (λ b. if b then reply.Refused Exists else loaded (load.Read tree)) (sym (contains-trees state name ∙ new_name (contains_key state.documents name) (load_fault (state.settings).k (load.Read tree)) none))
 effect_reply state (Discard name) r next p none effect = ap plain_reply effect.0 ∙ by_none state name (λ tree. None) (λ tree. reply.Done) reply.Done (λ tree f. refl) none
+effect_reply state (Rename old new) r next p none effect =
+    ap plain_reply effect.0
+    ∙ by_none state old (λ tree. if contains_key state.documents new then Some Exists else None) (λ tree. if contains_key (trees state) new then reply.Refused Exists else reply.Done) reply.Done
+    (λ tree f. sym (ap (λ b. if b then reply.Refused Exists else reply.Done) (contains-trees state new ∙ new_name (contains_key state.documents new) None f))) none
 effect_reply state Names r next p none effect = ap plain_reply effect.0 ∙ ap reply.Names (listed_bare (entries state.documents) ∙ ap (map plain.document_line) (sym (entries-trees state)))
 effect_reply state (Export name) r next p none effect = ap plain_reply effect.0 ∙ answered state name (λ tree. reply.Exported (text tree)) (λ tree. refl)
 effect_reply state (Insert name path (line.Wrong error)) r next p none effect = absurd effect
@@ -196,6 +213,8 @@ effect_reply state (Layout name) r next p none effect = cc
 effect_reply state (SetRule rule) r next p none effect = cc
 effect_reply state Rules r next p none effect = cc
 effect_reply state Checkpoint r next p none effect = cc
+effect_reply state (Begin bare) r next p none effect = absurd effect
+effect_reply state Commit r next p none effect = absurd effect
 effect_reply state Bad r next p none effect = absurd effect
 
 -- no effect is answered by such a limit
@@ -211,6 +230,7 @@ effect_unlimited : (state : State) (command : Command) (r : Reply) (next : State
 effect_unlimited state (Load name (load.Wrong error)) r next effect = absurd effect
 effect_unlimited state (Load name (load.Read tree)) r next effect = ap is_limit effect.answered
 effect_unlimited state (Discard name) r next effect = ap is_limit effect.0
+effect_unlimited state (Rename old new) r next effect = ap is_limit effect.0
 effect_unlimited state Names r next effect = ap is_limit effect.0
 effect_unlimited state (Export name) r next effect = ap is_limit effect.0 ∙ no_limit (λ (d : CutTree). reply.Exported (text (tree_of d))) (get state.documents name) (λ d. refl)
 effect_unlimited state (Insert name path (line.Wrong error)) r next effect = absurd effect
@@ -224,6 +244,8 @@ effect_unlimited state (Layout name) r next effect = ap is_limit effect.0 ∙ no
 effect_unlimited state (SetRule rule) r next effect = ap is_limit effect.0
 effect_unlimited state Rules r next effect = ap is_limit effect.0
 effect_unlimited state Checkpoint r next effect = ap is_limit effect.0
+effect_unlimited state (Begin bare) r next effect = absurd effect
+effect_unlimited state Commit r next effect = absurd effect
 effect_unlimited state Bad r next effect = absurd effect
 
 limited : (A B : Type 0) (b : Bool) → b ≡ true → A → MatchBool b A B

@@ -4,7 +4,7 @@ use Rattle.std.specs.Bool.{MatchBool}
 use Rattle.std.specs.List.{AllByRecursion}
 use Rattle.std.proofs.lemmas.List.Elements.{recursion_from_All}
 use Rattle.nx_script.specs.declared.command.Command.{Command}
-use Rattle.nx_script.specs.declared.command.Command.TheVariants.{Load, Discard, Names, Export, Insert, Delete, Retext, Get, Layout, SetRule, Rules, Checkpoint, Bad}
+use Rattle.nx_script.specs.declared.command.Command.TheVariants.{Load, Discard, Rename, Names, Export, Insert, Delete, Retext, Get, Layout, SetRule, Rules, Checkpoint, Begin, Commit, Bad}
 use Rattle.nx_script.specs.declared.reply.Reply.{Reply}
 use Rattle.nx_script.specs.Commands.{CanCome}
 use Rattle.nx_engine.specs.Documents.{Documents}
@@ -23,6 +23,7 @@ use Rattle.nx_steps.proofs.SoundLemmas.{step_sound}
 effect_stays : (state : State) (command : Command) (r : Reply) (next : State) → may_change command ≡ false → Effect state command r next → next ≡ state
 effect_stays state (Load name body) r next still effect = cc
 effect_stays state (Discard name) r next still effect = cc
+effect_stays state (Rename old new) r next still effect = cc
 effect_stays state Names r next still effect = effect.1
 effect_stays state (Export name) r next still effect = effect.1
 effect_stays state (Insert name path said) r next still effect = cc
@@ -33,6 +34,8 @@ effect_stays state (Layout name) r next still effect = effect.1
 effect_stays state (SetRule rule) r next still effect = cc
 effect_stays state Rules r next still effect = effect.1
 effect_stays state Checkpoint r next still effect = effect.1
+effect_stays state (Begin bare) r next still effect = absurd effect
+effect_stays state Commit r next still effect = absurd effect
 effect_stays state Bad r next still effect = absurd effect
 
 pub others_stay : StateStays

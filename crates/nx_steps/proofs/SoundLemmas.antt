@@ -4,7 +4,7 @@ use Rattle.std.specs.Prelude.{All, IsTrue, option_and_then}
 use Rattle.std.specs.List.{AllByRecursion, find}
 use Rattle.std.specs.Option.{option_map_or, option_or, is_some}
 use Rattle.std.specs.Str.{bytes_eq}
-use Rattle.std.specs.FinMap.{get}
+use Rattle.std.specs.FinMap.{get, remove}
 use Rattle.std.proofs.lemmas.Bool.Decides.{nat_tests}
 use Rattle.std.proofs.lemmas.List.Elements.{recursion_from_All}
 use Rattle.nx_tree.specs.declared.node.Node.{Node}
@@ -29,13 +29,13 @@ use Rattle.nx_script.specs.declared.command.LoadBody.TheVariants as load
 use Rattle.nx_script.specs.declared.command.LineBody.TheVariants as line
 use Rattle.nx_script.specs.declared.command.TextBody.TheVariants as content
 use Rattle.nx_script.specs.declared.command.Command.{Command}
-use Rattle.nx_script.specs.declared.command.Command.TheVariants.{Load, Discard, Names, Export, Insert, Delete, Retext, Get, Layout, SetRule, Rules, Checkpoint, Bad}
+use Rattle.nx_script.specs.declared.command.Command.TheVariants.{Load, Discard, Rename, Names, Export, Insert, Delete, Retext, Get, Layout, SetRule, Rules, Checkpoint, Begin, Commit, Bad}
 use Rattle.nx_script.specs.declared.reply.Reply.{Reply}
 use Rattle.nx_script.specs.declared.reply.ReplyError.{ReplyError}
 use Rattle.nx_script.specs.declared.reply.ReplyError.TheVariants.{Pyx}
 use Rattle.nx_script.specs.Commands.{CanCome}
-use Rattle.nx_script.specs.Field.{is_document_name}
-use Rattle.nx_script.specs.Rule.{HasLabels}
+use Rattle.nx_pyx.specs.DocumentName.{is_document_name}
+use Rattle.nx_matrix.specs.RuleLabels.{HasLabels}
 use Rattle.nx_engine.specs.Step.{worded, name_at, long_fault, insert_fault, delete_fault, retext_fault}
 use Rattle.nx_state.specs.State.{State}
 use Rattle.nx_steps.specs.Refusal.{refusal, inserted_fault, retexted_fault}
@@ -132,6 +132,10 @@ effect_good state (Load name (load.Wrong error)) r next comes feasible good none
 effect_good state (Load name (load.Read tree)) r next comes feasible good none effect =
     subst (OfEachDocument IsGood) (sym effect.next_is) (each_with IsGood state name effect.document good (comes.0, subst IsDocument (sym effect.tree_is) comes.1))
 effect_good state (Discard name) r next comes feasible good none effect = subst (OfEachDocument IsGood) (sym effect.1) (each_without IsGood state name good)
+effect_good state (Rename old new) r next comes feasible good none effect =
+    let without : State = record state { documents = remove state.documents old } in
+    subst (OfEachDocument IsGood) (sym effect.1.next_is)
+    (each_with IsGood without new effect.1.document (each_without IsGood state old good) (comes, (good old effect.1.document effect.1.there).1))
 effect_good state Names r next comes feasible good none effect = subst (OfEachDocument IsGood) (sym effect.1) good
 effect_good state (Export name) r next comes feasible good none effect = subst (OfEachDocument IsGood) (sym effect.1) good
 effect_good state (Insert name path (line.Wrong error)) r next comes feasible good none effect = absurd effect
@@ -163,6 +167,8 @@ effect_good state (Layout name) r next comes feasible good none effect = subst (
 effect_good state (SetRule rule) r next comes feasible good none effect = subst (OfEachDocument IsGood) (sym effect.1.next_is) good
 effect_good state Rules r next comes feasible good none effect = subst (OfEachDocument IsGood) (sym effect.1) good
 effect_good state Checkpoint r next comes feasible good none effect = subst (OfEachDocument IsGood) (sym effect.1) good
+effect_good state (Begin bare) r next comes feasible good none effect = absurd effect
+effect_good state Commit r next comes feasible good none effect = absurd effect
 effect_good state Bad r next comes feasible good none effect = absurd effect
 
 -- ---- rules
@@ -215,6 +221,7 @@ effect_rules : (state : State) (command : Command) (r : Reply) (next : State) �
 effect_rules state (Load name (load.Wrong error)) r next comes has effect = absurd effect
 effect_rules state (Load name (load.Read tree)) r next comes has effect = subst HasRules (sym effect.next_is) has
 effect_rules state (Discard name) r next comes has effect = subst HasRules (sym effect.1) has
+effect_rules state (Rename old new) r next comes has effect = subst HasRules (sym effect.1.next_is) has
 effect_rules state Names r next comes has effect = subst HasRules (sym effect.1) has
 effect_rules state (Export name) r next comes has effect = subst HasRules (sym effect.1) has
 effect_rules state (Insert name path (line.Wrong error)) r next comes has effect = absurd effect
@@ -229,6 +236,8 @@ effect_rules state (SetRule rule) r next comes has effect =
     (effect.1.are_rules, rules_labelled state.rules effect.1.rules rule effect.1.are_rules effect.1.sets comes (recursion_from_All HasLabels state.rules has.1))
 effect_rules state Rules r next comes has effect = subst HasRules (sym effect.1) has
 effect_rules state Checkpoint r next comes has effect = subst HasRules (sym effect.1) has
+effect_rules state (Begin bare) r next comes has effect = absurd effect
+effect_rules state Commit r next comes has effect = absurd effect
 effect_rules state Bad r next comes has effect = absurd effect
 
 effect_sound : (state : State) (command : Command) (r : Reply) (next : State) → CanCome command → IsSound state → AreFeasible next → refusal state command ≡ None → Effect state command r next → IsSound next

@@ -1,5 +1,5 @@
 -- Each state that pages stand for is sound.
-use Rattle.std.proofs.Common.{Ordering, ◌≡◌, ℕ, cond, true, false, List, [], ◌∷◌, map, Option, Some, refl, sym, ap, subst, ◌∙◌, Less, Equal, Greater}
+use Rattle.std.proofs.Common.{Ordering, ◌≡◌, ℕ, cond, true, false, List, [], ◌∷◌, map, Some, refl, sym, ap, subst, ◌∙◌, Less, Equal, Greater}
 use Rattle.std.specs.Prelude.{All, IsTrue}
 use Rattle.std.specs.List.{AllByRecursion}
 use Rattle.std.specs.Ordering.{is_eq, eq_by_cmp}
@@ -13,8 +13,8 @@ use Rattle.nx_hold.specs.Pieces.{held_by}
 use Rattle.nx_layouts.specs.Layout.{Stock}
 use Rattle.nx_catalog.specs.Catalog.{CanBeKept}
 use Rattle.nx_holdings.specs.declared.header.Settings.{Settings}
-use Rattle.nx_script.specs.Field.{name_order, is_document_name}
-use Rattle.nx_script.specs.Rule.{HasLabels}
+use Rattle.nx_pyx.specs.DocumentName.{name_order, is_document_name}
+use Rattle.nx_matrix.specs.RuleLabels.{HasLabels}
 use Rattle.nx_state.specs.State.{State}
 use Rattle.nx_state.specs.Stands.{StoredDocument, IsStoredIn}
 use Rattle.nx_drawn.specs.Splits.{whole_document}

@@ -2,14 +2,14 @@
 use Rattle.std.proofs.Common.{◌≡◌, ℕ, Bool, true, false, List, refl, sym, ap, ◌∙◌, Option, None, Some, if◌then◌else◌}
 use Rattle.std.specs.Prelude.{option_map}
 use Rattle.std.specs.Option.{option_map_or, option_or}
-use Rattle.std.specs.FinMap.{get, contains_key, insert}
+use Rattle.std.specs.FinMap.{get, contains_key, insert, remove}
 use Rattle.nx_tree.specs.Forest.{OrderedTree}
 use Rattle.nx_tree.specs.Edit.{put, cut_at, retext}
 use Rattle.nx_cuts.specs.Cut.{CutTree, tree_of}
 use Rattle.nx_script.specs.declared.command.LoadBody.TheVariants as load
 use Rattle.nx_script.specs.declared.command.LineBody.TheVariants as line
 use Rattle.nx_script.specs.declared.command.TextBody.TheVariants as content
-use Rattle.nx_script.specs.declared.command.Command.TheVariants.{Load, Discard, Names, Export, Insert, Delete, Retext, Get, Layout, SetRule, Rules, Checkpoint, Bad}
+use Rattle.nx_script.specs.declared.command.Command.TheVariants.{Load, Discard, Rename, Names, Export, Insert, Delete, Retext, Get, Layout, SetRule, Rules, Checkpoint, Begin, Commit, Bad}
 use Rattle.nx_script.specs.declared.command.Command.{Command}
 use Rattle.nx_script.specs.declared.reply.Reply.{Reply}
 use Rattle.nx_script.specs.declared.reply.ReplyError.{ReplyError}
@@ -17,6 +17,7 @@ use Rattle.nx_script.specs.declared.reply.ReplyError.TheVariants.{NoDocument, Ex
 use Rattle.nx_engine.specs.Documents.{Documents}
 use Rattle.nx_engine.specs.Step.{documents_after, documents_edited, insert_fault, delete_fault, retext_fault}
 use Rattle.nx_engine.proofs.EditedLemmas.{edited_at}
+use Rattle.nx_engine.proofs.StepLemmas.{rename_done}
 use Rattle.nx_state.specs.State.{State}
 use Rattle.nx_drawn.specs.Edits.{inserted, deleted, retexted}
 use Rattle.nx_drawn.specs.Splits.{Splits}
@@ -61,6 +62,13 @@ effect_trees state (Load name (load.Read tree)) r next feasible none effect =
     ap trees effect.next_is ∙ trees-with_document state name effect.document ∙ ap (insert (trees state) name) effect.tree_is
     ∙ ap (λ b. if b then trees state else insert (trees state) name tree) (sym new)
 effect_trees state (Discard name) r next feasible none effect = ap trees effect.1 ∙ trees-removed state name
+effect_trees state (Rename old new) r next feasible none effect =
+    let document = effect.1.document in
+    let without : State = record state { documents = remove state.documents old } in
+    let there = get-trees state old ∙ ap (option_map tree_of) effect.1.there in
+    let free = contains-trees state new ∙ new_name (contains_key state.documents new) None (none_of state old document (λ tree. if contains_key state.documents new then Some Exists else None) effect.1.there none) in
+    ap trees effect.1.next_is ∙ trees-with_document without new document ∙ ap (λ (d : Documents). insert d new (tree_of document)) (trees-removed state old)
+    ∙ sym (rename_done (trees state) old new (tree_of document) there free)
 effect_trees state Names r next feasible none effect = ap trees effect.1
 effect_trees state (Export name) r next feasible none effect = ap trees effect.1
 effect_trees state (Insert name path (line.Wrong error)) r next feasible none effect = absurd effect
@@ -81,6 +89,8 @@ effect_trees state (Layout name) r next feasible none effect = ap trees effect.1
 effect_trees state (SetRule rule) r next feasible none effect = ap trees effect.1.next_is
 effect_trees state Rules r next feasible none effect = ap trees effect.1
 effect_trees state Checkpoint r next feasible none effect = ap trees effect.1
+effect_trees state (Begin bare) r next feasible none effect = absurd effect
+effect_trees state Commit r next feasible none effect = absurd effect
 effect_trees state Bad r next feasible none effect = absurd effect
 
 pub effect_sums : EffectsLeaveSums

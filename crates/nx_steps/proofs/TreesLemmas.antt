@@ -10,7 +10,7 @@ use Rattle.std.specs.FinMap.{get, contains_key, insert, remove, entries, find, p
 use Rattle.std.specs.FinMap.Entries.{below_all, by_order}
 use Rattle.nx_tree.specs.Forest.{OrderedTree}
 use Rattle.nx_cuts.specs.Cut.{CutTree, tree_of}
-use Rattle.nx_script.specs.Field.{name_order}
+use Rattle.nx_pyx.specs.DocumentName.{name_order}
 use Rattle.nx_engine.specs.Documents.{Documents}
 use Rattle.nx_state.specs.State.{State}
 use Rattle.nx_steps.specs.Answers.{with_document}
@@ -87,6 +87,18 @@ tied documents name q old there Less e = refl
 tied documents name q old there Equal e = sym there ∙ get_tied nat_list_cmp_total documents q name e
 tied documents name q old there Greater e = refl
 
+-- a document that was taken away is gone, and no other has come
+removed_none : (documents : Documents) (name : List ℕ) → get (remove documents name) name ≡ None
+removed_none documents name =
+    get-remove nat_list_cmp_total documents name name ∙ ap (λ b. cond b None (get documents name)) ((eq_by_cmp_equiv nat_list_cmp_total).refl name)
+
+pub removed_free : (documents : Documents) (name other : List ℕ) → get documents other ≡ None → get (remove documents name) other ≡ None
+removed_free documents name other none = get-remove nat_list_cmp_total documents name other ∙ ap (cond (eq_by_cmp name_order other name) None) none ∙ nothing (eq_by_cmp name_order other name)
+  where
+    nothing : (b : Bool) → cond b None (let o : Option OrderedTree = None in o) ≡ None
+    nothing true = refl
+    nothing false = refl
+
 -- A sum over trees:
 
 module _ (count : OrderedTree → ℕ) where
@@ -121,22 +133,25 @@ module _ (count : OrderedTree → ℕ) where
   sum-new documents name tree none =
       ap sum_in (entries-insert nat_list_cmp_total documents name tree) ∙ sum_put name tree (entries documents) (sym (get-entries documents name) ∙ none)
 
-  -- a tree in place of another
-  pub sum-other : (documents : Documents) (name : List ℕ) (old tree : OrderedTree) → get documents name ≡ Some old → sum_over count (insert documents name tree) + count old ≡ sum_over count documents + count tree
-  sum-other documents name old tree there =
+  -- a document fewer takes away what it has
+  pub sum-fewer : (documents : Documents) (name : List ℕ) (old : OrderedTree) → get documents name ≡ Some old → sum_over count documents ≡ sum_over count (remove documents name) + count old
+  sum-fewer documents name old there =
       let rest = remove documents name in
-      let gone : get rest name ≡ None = get-remove nat_list_cmp_total documents name name ∙ ap (λ b. cond b None (get documents name)) (itself name) in
-      let at_once : insert rest name tree ≡ insert documents name tree =
-      same_trees (insert rest name tree) (insert documents name tree) (λ q.
-      get-insert nat_list_cmp_total rest name tree q ∙ ap (cond (eq_by_cmp name_order q name) (Some tree)) (get-remove nat_list_cmp_total documents name q)
-      ∙ put_again (eq_by_cmp name_order q name) tree (get documents q) ∙ sym (get-insert nat_list_cmp_total documents name tree q)) in
       let back : insert rest name old ≡ documents =
       same_trees (insert rest name old) documents (λ q.
       get-insert nat_list_cmp_total rest name old q ∙ ap (cond (eq_by_cmp name_order q name) (Some old)) (get-remove nat_list_cmp_total documents name q)
       ∙ put_again (eq_by_cmp name_order q name) old (get documents q) ∙ tied documents name q old there (name_order q name) refl) in
-      let with_tree : sum_over count (insert documents name tree) ≡ sum_over count rest + count tree = ap (λ (d : Documents). sum_over count d) (sym at_once) ∙ sum-new rest name tree gone in
-      let with_old : sum_over count documents ≡ sum_over count rest + count old = ap (λ (d : Documents). sum_over count d) (sym back) ∙ sum-new rest name old gone in
+      ap (λ (d : Documents). sum_over count d) (sym back) ∙ sum-new rest name old (removed_none documents name)
+
+  -- a tree in place of another
+  pub sum-other : (documents : Documents) (name : List ℕ) (old tree : OrderedTree) → get documents name ≡ Some old → sum_over count (insert documents name tree) + count old ≡ sum_over count documents + count tree
+  sum-other documents name old tree there =
+      let rest = remove documents name in
+      let at_once : insert rest name tree ≡ insert documents name tree =
+      same_trees (insert rest name tree) (insert documents name tree) (λ q.
+      get-insert nat_list_cmp_total rest name tree q ∙ ap (cond (eq_by_cmp name_order q name) (Some tree)) (get-remove nat_list_cmp_total documents name q)
+      ∙ put_again (eq_by_cmp name_order q name) tree (get documents q) ∙ sym (get-insert nat_list_cmp_total documents name tree q)) in
+      let with_tree : sum_over count (insert documents name tree) ≡ sum_over count rest + count tree =
+      ap (λ (d : Documents). sum_over count d) (sym at_once) ∙ sum-new rest name tree (removed_none documents name) in
+      let with_old = sum-fewer documents name old there in
       omega (arith, with_tree, with_old)
-    where
-      itself : (q : List ℕ) → eq_by_cmp name_order q q ≡ true
-      itself q = (eq_by_cmp_equiv nat_list_cmp_total).refl q

@@ -13,7 +13,7 @@ use Rattle.nx_script.specs.declared.command.LoadBody.TheVariants as load
 use Rattle.nx_script.specs.declared.command.LineBody.TheVariants as line
 use Rattle.nx_script.specs.declared.command.TextBody.TheVariants as content
 use Rattle.nx_script.specs.declared.command.Command.{Command}
-use Rattle.nx_script.specs.declared.command.Command.TheVariants.{Load, Insert, Delete, Retext, SetRule}
+use Rattle.nx_script.specs.declared.command.Command.TheVariants.{Load, Rename, Insert, Delete, Retext, SetRule}
 use Rattle.nx_script.specs.declared.reply.Reply.{Reply}
 use Rattle.nx_script.specs.declared.reply.Reply.TheVariants.{Refused}
 use Rattle.nx_script.specs.declared.reply.ReplyError.TheVariants.{Full}
@@ -86,6 +86,7 @@ CountsChanged count state command name change =
 -- what the bound of room counts behind a command that may need room
 abbrev pub IsCounted : (OrderedTree → ℕ) → State → Command → Type 0
 IsCounted count state (Load name (load.Read tree)) = sum_after count state (Load name (load.Read tree)) ≡ sum_of count state + count tree
+IsCounted count state (Rename old new) = sum_after count state (Rename old new) ≡ sum_of count state
 IsCounted count state (Insert name path (line.Read node)) = CountsChanged count state (Insert name path (line.Read node)) name (put node path)
 IsCounted count state (Delete name path) = CountsChanged count state (Delete name path) name (cut_at path)
 IsCounted count state (Retext name path (content.Read bytes)) = CountsChanged count state (Retext name path (content.Read bytes)) name (retext bytes path)

@@ -16,7 +16,7 @@ use Rattle.nx_script.specs.declared.command.LineBody.TheVariants as line
 use Rattle.nx_script.specs.declared.command.TextBody.{TextBody}
 use Rattle.nx_script.specs.declared.command.TextBody.TheVariants as content
 use Rattle.nx_script.specs.declared.command.Command.{Command}
-use Rattle.nx_script.specs.declared.command.Command.TheVariants.{Load, Discard, Names, Export, Insert, Delete, Retext, Get, Layout, SetRule, Rules, Checkpoint, Bad}
+use Rattle.nx_script.specs.declared.command.Command.TheVariants.{Load, Discard, Rename, Names, Export, Insert, Delete, Retext, Get, Layout, SetRule, Rules, Checkpoint, Begin, Commit, Bad}
 use Rattle.nx_script.specs.declared.reply.ReplyError.{ReplyError}
 use Rattle.nx_script.specs.declared.reply.ReplyError.TheVariants.{Syntax, NoDocument, Exists, Pyx, NoNode, TooManyRules, TooHeavy}
 use Rattle.nx_engine.specs.Step.{insert_fault, delete_fault, retext_fault}
@@ -58,6 +58,7 @@ rule_fault rules rule = if not (is_free rule.entry) && not (has_rule rules rule.
 abbrev pub refusal : State → Command → Option ReplyError
 refusal state (Load name body) = if contains_key state.documents name then Some Exists else load_fault (state.settings).k body
 refusal state (Discard name) = document_fault state name (λ tree. None)
+refusal state (Rename old new) = document_fault state old (λ tree. if contains_key state.documents new then Some Exists else None)
 refusal state Names = None
 refusal state (Export name) = document_fault state name (λ tree. None)
 refusal state (Insert name path said) = document_fault state name (λ tree. option_or (insert_fault path said tree) (inserted_fault (state.settings).k path said))
@@ -68,4 +69,6 @@ refusal state (Layout name) = document_fault state name (λ tree. None)
 refusal state (SetRule rule) = rule_fault state.rules rule
 refusal state Rules = None
 refusal state Checkpoint = None
+refusal state (Begin bare) = Some Syntax
+refusal state Commit = Some Syntax
 refusal state Bad = Some Syntax

@@ -4,8 +4,8 @@ use Rattle.std.specs.FinMap.{get}
 use Rattle.nx_tree.specs.Document.{IsDocument}
 use Rattle.nx_cuts.specs.Cut.{CutTree, AreParts, tree_of}
 use Rattle.nx_matrix.specs.Rules.{AreRules}
-use Rattle.nx_script.specs.Field.{is_document_name}
-use Rattle.nx_script.specs.Rule.{HasLabels}
+use Rattle.nx_pyx.specs.DocumentName.{is_document_name}
+use Rattle.nx_matrix.specs.RuleLabels.{HasLabels}
 use Rattle.nx_drawn.specs.Splits.{whole_document}
 use Rattle.nx_state.specs.State.{State}
 

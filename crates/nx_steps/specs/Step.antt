@@ -2,7 +2,7 @@
 use Rattle.std.specs.Prelude.{◌≡◌, ◌⊎◌, ℕ, ◌+◌, Bool, true, false, IsTrue, List, [], ◌∷◌, map, Some}
 use Rattle.std.specs.Option.{option_map_or, MatchOption}
 use Rattle.std.specs.List.{sum}
-use Rattle.std.specs.FinMap.{get, remove, entries, values, from_sorted}
+use Rattle.std.specs.FinMap.{get, insert, remove, entries, values, from_sorted}
 use Rattle.nx_tree.specs.Forest.{OrderedTree, nodes}
 use Rattle.nx_tree.specs.Edit.{at}
 use Rattle.nx_pyx.specs.Text.{text}
@@ -13,7 +13,7 @@ use Rattle.nx_script.specs.declared.command.LoadBody.TheVariants as load
 use Rattle.nx_script.specs.declared.command.LineBody.TheVariants as line
 use Rattle.nx_script.specs.declared.command.TextBody.TheVariants as content
 use Rattle.nx_script.specs.declared.command.Command.{Command}
-use Rattle.nx_script.specs.declared.command.Command.TheVariants.{Load, Discard, Names, Export, Insert, Delete, Retext, Get, Layout, SetRule, Rules, Checkpoint}
+use Rattle.nx_script.specs.declared.command.Command.TheVariants.{Load, Discard, Rename, Names, Export, Insert, Delete, Retext, Get, Layout, SetRule, Rules, Checkpoint}
 use Rattle.nx_script.specs.declared.reply.Reply.{Reply}
 use Rattle.nx_script.specs.declared.reply.Reply.TheVariants as reply
 use Rattle.nx_script.specs.declared.reply.ReplyError.TheVariants.{NoNode, Full}
@@ -52,6 +52,12 @@ pub record Edits (state : State) (name : List ℕ) (Becomes : CutTree → CutTre
   pub becomes : Becomes old new
   pub next_is : next ≡ with_document state name new
 
+-- The document of the old name is that of the new one.
+pub record Renames (state : State) (old new : List ℕ) (next : State) : Type 0 where
+  pub document : CutTree
+  pub there : get state.documents old ≡ Some document
+  pub next_is : next ≡ record state { documents = insert (remove state.documents old) new document }
+
 -- The rules say of a pair what this one says, and of each other pair what they said.
 pub record Sets (state : State) (rule : Rule) (next : State) : Type 0 where
   pub rules : List Rule
@@ -63,6 +69,7 @@ pub record Sets (state : State) (rule : Rule) (next : State) : Type 0 where
 abbrev pub Effect : State → Command → Reply → State → Type 0
 Effect state (Load name (load.Read tree)) r next = Loads state name tree r next
 Effect state (Discard name) r next = (r ≡ reply.Done) × (next ≡ record state { documents = remove state.documents name })
+Effect state (Rename old new) r next = (r ≡ reply.Done) × Renames state old new next
 Effect state Names r next = Answers state (reply.Names (map cut_document_line (entries state.documents))) r next
 Effect state (Export name) r next = Answers state (by_stored_document state name (λ document. reply.Exported (text (tree_of document)))) r next
 Effect state (Insert name path (line.Read node)) r next = (r ≡ reply.Done) × Edits state name (λ old. Splits state.settings state.rules (inserted state.rules node path old)) next
@@ -79,6 +86,7 @@ Effect state _ r next = ⊥
 abbrev pub may_change : Command → Bool
 may_change (Load name body) = true
 may_change (Discard name) = true
+may_change (Rename old new) = true
 may_change (Insert name path said) = true
 may_change (Delete name path) = true
 may_change (Retext name path said) = true
@@ -88,6 +96,7 @@ may_change _ = false
 -- the command may need pages
 abbrev pub may_need_room : Command → Bool
 may_need_room (Load name body) = true
+may_need_room (Rename old new) = true
 may_need_room (Insert name path said) = true
 may_need_room (Delete name path) = true
 may_need_room (Retext name path said) = true

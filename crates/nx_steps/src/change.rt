@@ -1,8 +1,9 @@
 // Which commands may change what is stored.
 ghost use Rattle.std.specs.Prelude.{◌≡◌};
 ghost use Rattle.nx_steps.specs.Step.{may_change};
+ghost use Rattle.nx_steps.specs.Requests.{may_change_request};
 
-use nx_script::Command;
+use nx_script::{Command, Request};
 
 /// Whether the command may change what is stored. Any other leaves the state, whatever it is answered.
 pub fn may_change(command: &Command) -> bool
@@ -11,6 +12,7 @@ pub fn may_change(command: &Command) -> bool
     match command {
         Command::Load { .. }
         | Command::Discard { .. }
+        | Command::Rename { .. }
         | Command::Insert { .. }
         | Command::Delete { .. }
         | Command::Retext { .. }
@@ -21,6 +23,18 @@ pub fn may_change(command: &Command) -> bool
         | Command::Layout { .. }
         | Command::Rules
         | Command::Checkpoint
+        | Command::Begin { .. }
+        | Command::Commit
         | Command::Bad => false,
+    }
+}
+
+/// Whether the request may change what is stored. Any other leaves the state, whatever it is answered.
+pub fn may_change_request(request: &Request) -> bool
+    ensures answer { result ≡ may_change_request request.now }
+{
+    match request {
+        Request::Single(command) => may_change(command),
+        Request::Transaction(commands) => !commands.is_empty(),
     }
 }

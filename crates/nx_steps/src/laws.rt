@@ -1,5 +1,6 @@
 //! What holds of steps, and of runs of them.
 ghost use Rattle.nx_steps.specs.Laws.{EffectsLeaveSums, StateStays, RoomIsCounted, RunsEditTrees, RunsKeepSound, RunsReplyPlainly, StepsAgree, StepsArePlain, StepsKeepSound, StepsStayFeasible, StepsStayPartitioned, StoredIsSound};
+ghost use Rattle.nx_steps.specs.RequestLaws.{RequestsKeepSound, RequestRunsKeepSound, RequestsStayFeasible, RequestsStayPartitioned, RequestsStay, TransactionsEditTrees, RequestRunsEditTrees, RequestsAgree};
 
 /// Each state that pages stand for is sound: its documents are such, cut into parts that aren't too heavy,
 /// and its rules are those of a matrix.
@@ -64,4 +65,46 @@ pub fn steps_stay_feasible()
 /// Behind each step the intervals of each document are a feasible partitioning of its tree.
 pub fn steps_stay_partitioned()
     ensures { StepsStayPartitioned }
+{}
+
+/// Each step of a request that a script can give leaves a sound state sound.
+pub fn requests_keep_sound()
+    ensures { RequestsKeepSound }
+{}
+
+/// The same of a run of requests.
+pub fn request_runs_keep_sound()
+    ensures { RequestRunsKeepSound }
+{}
+
+/// Behind each step of a request each document is cut into parts that aren't too heavy, where it was so before.
+pub fn requests_stay_feasible()
+    ensures { RequestsStayFeasible }
+{}
+
+/// Behind each step of a request the intervals of each document are a feasible partitioning of its tree.
+pub fn requests_stay_partitioned()
+    ensures { RequestsStayPartitioned }
+{}
+
+/// A request that may not change what is stored leaves the state.
+pub fn other_requests_stay()
+    ensures { RequestsStay }
+{}
+
+/// The trees behind a transaction that is carried out are those of its commands over trees in memory.
+pub fn transactions_edit_trees()
+    ensures { TransactionsEditTrees }
+{}
+
+/// The trees behind a run of requests are those of its commands over trees in memory, those aside that were
+/// refused for weight or for want of room, and those of transactions that were refused.
+pub fn request_runs_edit_trees()
+    ensures { RequestRunsEditTrees }
+{}
+
+/// Two steps of one request in one state have the same answer and leave the same trees and rules, where
+/// nothing was refused for want of room.
+pub fn requests_agree()
+    ensures { RequestsAgree }
 {}

@@ -7,4 +7,4 @@
 mod change;
 pub mod laws;
 
-pub use change::may_change;
+pub use change::{may_change, may_change_request};

@@ -9,12 +9,12 @@ use Rattle.nx_host.specs.Time.{elapsed_weaker}
 use Rattle.nx_host.proofs.DiskLemmas.{settled_kept, settled_still}
 use Rattle.nx_holdings.specs.Holdings.{Held}
 use Rattle.nx_records.specs.declared.records.Records.{Records}
-use Rattle.nx_records.specs.Records.{StandsFor}
+use Rattle.nx_records.specs.Records.{StandsFor, HasNoChanges}
 use Rattle.nx_records.proofs.LeaveLemmas.{leaves_same, leaves_stand}
 use Rattle.nx_catalog.specs.Catalog.{Contents, IsCatalog}
 use Rattle.nx_state.specs.State.{State}
 use Rattle.nx_state.specs.Stands.{Recovers}
-use Rattle.nx_store.specs.Store.{is_ended, LeavesStore, IsAt, Shows, IsOf}
+use Rattle.nx_store.specs.Store.{is_ended, LeavesStore, IsAt, IsNow, Shows, IsOf}
 use Rattle.nx_store.specs.declared.store.Store.{Store}
 
 -- nothing was asked of it
@@ -43,6 +43,21 @@ module _ {D : Type 0} {d : Ghosts D} where
     none_waits = (leaves.records).changes_stay ∙ at.none_waits;
     state_is = at.state_is;
     catalog = subst (λ (c : Contents). IsCatalog (at.held).catalog.bytes c) (sym leaves.catalog) at.catalog;
+  }
+
+  -- whatever waits, where nothing does
+  abbrev pub now_at : {s : Store} {x : D} {state : State} (at : IsAt d s x state) → IsNow d s x at.held state
+  now_at at = record { held = at.held; stands = at.stands; state_is = at.state_is; catalog = at.catalog }
+
+  -- a store whose changes were committed is at what was held
+  abbrev pub committed_at : (s1 s2 : Store) (x1 x2 : D) (saved : Held) (next : State) (now : IsNow d s1 x1 saved next) (image : Image) → d.contents x2 ≡ Some image
+      → ((saved now : Held) (image : Image) → StandsFor d s1.records x1 saved now → d.contents x2 ≡ Some image → StandsFor d s2.records x2 now now) → HasNoChanges s2.records → s2.catalog ≡ s1.catalog → IsAt d s2 x2 next
+  committed_at s1 s2 x1 x2 saved next now image told stands none catalog = record {
+    held = now.held;
+    stands = stands saved now.held image now.stands told;
+    none_waits = none;
+    state_is = now.state_is;
+    catalog = subst (λ (c : Contents). IsCatalog (now.held).catalog.bytes c) (sym catalog) now.catalog;
   }
 
   -- a store at a state runs

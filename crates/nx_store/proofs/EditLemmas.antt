@@ -1,6 +1,6 @@
 -- A document of a store edited, before the commit.
 use Rattle.std.proofs.Common.{◌≡◌, ℕ, ◌+◌, ◌*◌, ◌<◌, ◌≤◌, cond, inl, inr, List, [], ◌∷◌, ◌++◌, length, map, Option, None, Some, Bool, true, false, Less, Equal, Greater, is_eq, refl, sym, ap, ◌∙◌, subst, arith, append-nil}
-use Rattle.std.specs.Prelude.{◌≢◌, All, IsPermutation, if◌then◌else◌, nat_lt, option_and_then, Ok, Err}
+use Rattle.std.specs.Prelude.{◌≢◌, All, Contains, IsPermutation, if◌then◌else◌, nat_lt, option_and_then, Ok, Err}
 use Rattle.std.specs.Option.{is_some, option_map, option_map_or, option_or, IsSomeAnd}
 use Rattle.std.specs.List.{sum}
 use Rattle.std.specs.FinMap.{entries, values, find, get, insert, get-entries}
@@ -32,8 +32,8 @@ use Rattle.nx_records.specs.Changes.{SetsCatalog, catalog_needs}
 use Rattle.nx_records.specs.Refusals.{RunsOn, NotStored}
 use Rattle.nx_cuts.specs.Cut.{CutTree, forest, tree_of}
 use Rattle.nx_layouts.specs.Layout.{RecordPlace, Layout, without_places, nodes_in, lists_of, contents_of, AreOnce, ArePlacedOnce}
-use Rattle.nx_script.specs.Field.{name_order, is_document_name}
-use Rattle.nx_script.specs.Rule.{HasLabels}
+use Rattle.nx_pyx.specs.DocumentName.{name_order, is_document_name}
+use Rattle.nx_matrix.specs.RuleLabels.{HasLabels}
 use Rattle.nx_script.specs.Commands.{CanCome}
 use Rattle.nx_script.specs.declared.command.Command.TheVariants.{Insert, Delete, Retext, Checkpoint}
 use Rattle.nx_script.specs.declared.command.LineBody.{LineBody}
@@ -72,23 +72,23 @@ use Rattle.nx_edit.specs.Refusals.{refused_by, edit_needs, edit_error, LeavesLas
 use Rattle.nx_edit.specs.Retexting.{other_content, outweighs, outgrows}
 use Rattle.nx_edit.specs.declared.error.EditError.{EditError}
 use Rattle.nx_edit.specs.declared.error.EditError.TheVariants as edit
-use Rattle.nx_store.specs.Store.{IsAt}
-use Rattle.nx_store.specs.Staying.{IsOffPath, IsLeftBy, RecordsStay}
-use Rattle.nx_store.specs.Loading.{IsStoreLeft}
-use Rattle.nx_store.specs.Changing.{Prepares, StepsRefused}
+use Rattle.nx_store.specs.Store.{IsAt, IsNow}
+use Rattle.nx_store.specs.Staying.{IsOffPath, IsLeftBy, RecordsStay, OthersStay}
+use Rattle.nx_store.specs.Changing.{PreparesNow, IsStoreLeft, StepsRefused}
 use Rattle.nx_store.specs.Editing.{edit_command, said_command, said_edit, CanBeMade, edit_fault, is_of_edit, tree_edit, EditBecomes, stays_below, edit_kept, edit_pages, MakesEdit, NotMade, edit_reply, EditNotPrepared}
 use Rattle.nx_store.specs.declared.editing.Edit.{Edit}
 use Rattle.nx_store.specs.declared.editing.Edit.TheVariants as made
 use Rattle.nx_store.specs.declared.edits.EditBody.{EditBody}
 use Rattle.nx_store.specs.declared.edits.EditBody.TheVariants as body
 use Rattle.nx_store.specs.declared.store.Store.{Store}
-use Rattle.nx_store.proofs.FoundLemmas.{at_none, same_some}
+use Rattle.nx_store.proofs.FoundLemmas.{at_none, found, get_found, map_none, same_some}
+use Rattle.nx_catalog.proofs.CatalogLemmas.{one_contents}
 use Rattle.nx_store.proofs.KeepLemmas.{later_rose, no_end}
 use Rattle.nx_store.proofs.PageLemmas.{near_few, cut_within, retext_within, put_within}
 use Rattle.nx_store.proofs.RoomLemmas.{sum_between, sum_stored, nodes_stored, pages_stored, edit_room}
 use Rattle.nx_store.proofs.StepsLemmas.{refused_step, done_step, full_step}
 use Rattle.nx_store.proofs.OrderedLemmas.{name_same, replaced_between}
-use Rattle.nx_store.proofs.StayingLemmas.{off_within, change_leaves, catalog_leaves}
+use Rattle.nx_store.proofs.StayingLemmas.{alone_there, off_within, change_leaves, catalog_leaves}
 use Rattle.nx_store.proofs.GoneLemmas.{none_needed, contents_at, entries_at, the_one, place, shown_there, holds_between, stored_one, own_contents, told_entry, none_entry}
 
 -- ---- the entry of a name
@@ -122,6 +122,32 @@ none_named {store = store} {state = state} name at none = by_name (is_document_n
     by_name : (named : Bool) → is_document_name name ≡ named → None ≡ (if named then get (store.catalog).documents name else None) → get state.documents name ≡ None
     by_name true is e = at_none name at (sym e)
     by_name false is e = at_none name at (lacks is (get (store.catalog).documents name) refl)
+
+-- ... also where something waits
+now_entries : {D : Type 0} {d : Ghosts D} {store : Store} {x : D} {saved : Held} {state : State} (at : IsNow d store x saved state) → entries (store.catalog).documents ≡ map (λ (s : StoredDocument). (s.name, s.entry)) (at.state_is).stored
+now_entries {store = store} at =
+    ap (λ (c : Contents). entries c.documents) (sym (one_contents (at.held).catalog.bytes (at.state_is).contents store.catalog (at.state_is).catalog at.catalog)) ∙ (at.state_is).names
+
+pub now_none : {D : Type 0} {d : Ghosts D} {store : Store} {x : D} {saved : Held} {state : State} (name : List ℕ) → IsNow d store x saved state → get (store.catalog).documents name ≡ None → get state.documents name ≡ None
+now_none {store = store} {state = state} name at none =
+    let stored = (at.state_is).stored in
+    let lacks : found name stored ≡ None =
+    map_none (λ (s : StoredDocument). s.entry) (found name stored) (sym (get_found (store.catalog).documents (λ (s : StoredDocument). s.entry) name stored (now_entries at)) ∙ none) in
+    get_found state.documents (λ (s : StoredDocument). s.document) name stored (at.state_is).documents ∙ ap (option_map (λ (s : StoredDocument). s.document)) lacks
+
+pub none_entered : {D : Type 0} {d : Ghosts D} {store : Store} {x : D} {saved : Held} {state : State} (name : List ℕ) → IsNow d store x saved state → None ≡ (if is_document_name name then get (store.catalog).documents name else None)
+    → get state.documents name ≡ None
+none_entered {store = store} {state = state} name at none = by_name (is_document_name name) refl none
+  where
+    lacks : is_document_name name ≡ false → (found : Option DocEntry) → get (store.catalog).documents name ≡ found → found ≡ None
+    lacks unnamed None is = refl
+    lacks unnamed (Some entry) is =
+        let kept = kept_at CanBeKept name (entries (store.catalog).documents) entry (at.catalog).kept (sym (get-entries (store.catalog).documents name) ∙ is) in
+        absurd (false≢true (sym unnamed ∙ kept.named))
+
+    by_name : (named : Bool) → is_document_name name ≡ named → None ≡ (if named then get (store.catalog).documents name else None) → get state.documents name ≡ None
+    by_name true is e = now_none name at (sym e)
+    by_name false is e = now_none name at (lacks is (get (store.catalog).documents name) refl)
 
 -- ---- what an edit is answered
 
@@ -278,6 +304,11 @@ wrong_line state name path error old there = refused_step state (Insert name pat
 pub absent_cut : (state : State) (name path : List ℕ) → get state.documents name ≡ None → Step state (Delete name path) (reply.Refused NoDocument) state
 absent_cut state name path none = refused_step state (Delete name path) NoDocument (at_nothing state name (delete_fault path) none)
 
+pub absent_edit : (state : State) (name path : List ℕ) (e : Edit) → get state.documents name ≡ None → Step state (edit_command name path e) (reply.Refused NoDocument) state
+absent_edit state name path made.Delete none = absent_cut state name path none
+absent_edit state name path (made.Retext content) none = absent_text state name path (said.Read content) none
+absent_edit state name path (made.Insert node) none = absent_line state name path (line.Read node) none
+
 -- ---- an edit as it is said
 
 pub absent_body : (state : State) (name path : List ℕ) (b : EditBody) → get state.documents name ≡ None → Step state (said_command name path b) (reply.Refused NoDocument) state
@@ -347,7 +378,17 @@ record IsRewritten (saved mid : Held) (state : State) (contents : Contents) (nam
   pub documents : entries (insert state.documents name document) ≡ map (λ (s : StoredDocument). (s.name, s.document)) stored
   pub settings : mid.settings ≡ saved.settings
 
-module _ {D : Type 0} (d : Ghosts D) (s0 : Store) (x0 : D) (state : State) (at : IsAt d s0 x0 state) (name : List ℕ) (entry : DocEntry) (there : get (s0.catalog).documents name ≡ Some entry) where
+-- the others are there still where one became another one
+others_among : (name : List ℕ) (before : List StoredDocument) (old now : StoredDocument) (after : List StoredDocument) (s : StoredDocument) → old.name ≡ name → Contains (before ++ old ∷ after) s → s.name ≢ name → Contains (before ++ now ∷ after) s
+others_among name before old now after s named there other = elim (Contains-append_cases before (old ∷ after) s there) [
+  | inl early ↦ Contains-append_left before (now ∷ after) s early
+  | inr later ↦ elim (Contains-append_cases (old ∷ []) after s later) [
+    | inl one ↦ absurd (other (ap (λ (x : StoredDocument). x.name) (sym (alone_there old s one)) ∙ named))
+    | inr late ↦ Contains-append_right before (now ∷ after) s (Contains-append_right (now ∷ []) after s late)
+  ]
+]
+
+module _ {D : Type 0} (d : Ghosts D) (s0 : Store) (x0 : D) {saved : Held} (state : State) (at : IsNow d s0 x0 saved state) (name : List ℕ) (entry : DocEntry) (there : get (s0.catalog).documents name ≡ Some entry) where
   -- the document that is edited
   abbrev pub old : StoredDocument
   old = (the_one d s0 x0 state at name entry there).0
@@ -378,15 +419,15 @@ module _ {D : Type 0} (d : Ghosts D) (s0 : Store) (x0 : D) (state : State) (at :
         IsEdited (EditBecomes (at.held).settings rules e path old.document) (edit_kept e path) (edit_pages e) (document_size old.document) (document_places old.entry old.document old.layout) (places_off (stays_below e) path old.layout)
         old.layout new at.held mid
 
-    edited_one : (r1 : Records) (x1 : D) (new : DocEntry) → MakesEdit d s0.records r1 x0 x1 rules e path entry new → (mid : Held) × StandsFor d r1 x1 at.held mid × IsTidy mid × Edited new mid
+    edited_one : (r1 : Records) (x1 : D) (new : DocEntry) → MakesEdit d s0.records r1 x0 x1 rules e path entry new → (mid : Held) × StandsFor d r1 x1 saved mid × IsTidy mid × Edited new mid
     edited_one r1 x1 new makes =
         let stored = stored_one d s0 x0 state at name entry there in
-        subst (λ (x : DocEntry). MakesEdit d s0.records r1 x0 x1 rules e path x new) (sym (the_one d s0 x0 state at name entry there).2) makes at.held at.held (holds_between d s0 x0 state at name entry there).pieces
+        subst (λ (x : DocEntry). MakesEdit d s0.records r1 x0 x1 rules e path x new) (sym (the_one d s0 x0 state at name entry there).2) makes saved at.held (holds_between d s0 x0 state at name entry there).pieces
         old.document old.layout at.stands (holds_between d s0 x0 state at name entry there).tidy stored.laid stored.counted (own_contents d s0 x0 state at name entry there)
 
     rewritten : (r1 : Records) (x1 : D) (new : DocEntry) → MakesEdit d s0.records r1 x0 x1 rules e path entry new
-        → (mid : Held) × StandsFor d r1 x1 at.held mid × (document : CutTree) × EditBecomes (at.held).settings rules e path old.document document × IsRewritten at.held mid state s0.catalog name new document
-        × RecordsStay (IsOffPath name (stays_below e) path) (at.state_is).stored at.held mid
+        → (mid : Held) × StandsFor d r1 x1 saved mid × (document : CutTree) × EditBecomes (at.held).settings rules e path old.document document × (m : IsRewritten at.held mid state s0.catalog name new document)
+        × RecordsStay (IsOffPath name (stays_below e) path) (at.state_is).stored at.held mid × OthersStay name (at.state_is).stored m.stored
     rewritten r1 x1 new makes =
         let mid = edited_one r1 x1 new makes in
         let among = place d s0 x0 state at name entry there in
@@ -416,6 +457,7 @@ module _ {D : Type 0} (d : Ghosts D) (s0 : Store) (x0 : D) (state : State) (at :
                 | inl of ↦ record { itself = edited.records_stay p of.1; list = λ count chain names. edited.lists_stay p count chain of.1 names }
                 | inr of ↦ absurd (of.0 among.named)
               ])),
+          λ s there other. others_among name among.before old now among.after s among.named (subst (λ (l : List StoredDocument). Contains l s) among.are there) other,
         )
 
   -- the same settings and rules are those of the state
@@ -434,13 +476,13 @@ module _ {D : Type 0} (d : Ghosts D) (s0 : Store) (x0 : D) (state : State) (at :
       → (r1 : Records) (s2 : Store) (x1 x2 : D) (new : DocEntry) → MakesEdit d s0.records r1 x0 x1 (s0.catalog).rules e path entry new
       → (s2.catalog).documents ≡ insert (s0.catalog).documents name new → (s2.catalog).rules ≡ (s0.catalog).rules
       → (All HasLabels (s0.catalog).rules → IsCatalog (catalog_bytes s2.catalog) s2.catalog) → ComesTo d r1 s2.records x1 x2 (λ was now. SavesEntry s0.catalog s2.catalog was now)
-      → (made : Prepares d state (edit_command name path e) reply.Done s2 x2) × RecordsStay (IsLeftBy (edit_command name path e)) (at.state_is).stored at.held (made.prepared).now
+      → (made : PreparesNow d saved state (edit_command name path e) reply.Done s2 x2) × RecordsStay (IsLeftBy (edit_command name path e)) (at.state_is).stored at.held (made.now).held × OthersStay name (at.state_is).stored ((made.now).state_is).stored
   edit_prepared path e can free r1 s2 x1 x2 new comes documents rules form saves =
       let mid = rewritten (s0.catalog).rules e path r1 x1 new comes in
       let m = mid.4 in
-      let came = saves at.held mid.0 mid.1 in
+      let came = saves saved mid.0 mid.1 in
       let was : (mid.0).catalog.bytes ≡ catalog_bytes s0.catalog = ap (λ (c : OnPages). c.bytes) m.catalog ∙ (at.catalog).spelled in
-      let now : (next : Held) × StandsFor d s2.records x2 at.held next × SetsCatalog (catalog_bytes s2.catalog) mid.0 next =
+      let now : (next : Held) × StandsFor d s2.records x2 saved next × SetsCatalog (catalog_bytes s2.catalog) mid.0 next =
       (came.0, came.1, subst (λ (b : List ℕ). SetsCatalog b mid.0 came.0) ((came.2).saves was) (came.2).sets) in
       let formed = form (at.catalog).labels in
       let becomes : EditBecomes state.settings state.rules e path old.document mid.2 =
@@ -449,12 +491,10 @@ module _ {D : Type 0} (d : Ghosts D) (s0 : Store) (x0 : D) (state : State) (at :
           next = with_document state name mid.2;
           step = done_edit state name path e old.document mid.2 (shown_there d s0 x0 state at name entry there) can
               (fault_at path e None (told_entry d s0 x0 state at name entry there (λ now document layout. edit_fault e path (settings_of s0.records).k (tree_of document) ≡ None) free)) becomes;
-          prepared = record {
-            saved = at.held;
-            now = now.0;
+          now = record {
+            held = now.0;
             stands = now.1;
-            was = at.state_is;
-            will = record {
+            state_is = record {
               settings = (now.2).settings ∙ m.settings ∙ (at.state_is).settings;
               stored = m.stored;
               holds = catalog_comes (catalog_bytes s2.catalog) mid.0 now.0 m.stored m.holds now.2;
@@ -468,6 +508,7 @@ module _ {D : Type 0} (d : Ghosts D) (s0 : Store) (x0 : D) (state : State) (at :
           };
         },
         λ s p there left. catalog_leaves (IsOffPath name (stays_below e) path) (catalog_bytes s2.catalog) at.held mid.0 now.0 (at.state_is).stored now.2 mid.5 s p there (left_off name path e s p left),
+        mid.6,
       )
 
   -- the catalog, which is as long as it was, needs no page
@@ -477,7 +518,7 @@ module _ {D : Type 0} (d : Ghosts D) (s0 : Store) (x0 : D) (state : State) (at :
       let mid = rewritten rules e path r1 x1 new comes in
       let same = length_there (s0.catalog).documents (s0.catalog).rules name new (ap is_some there) in
       let was : length (mid.0).catalog.bytes ≡ length (catalog_bytes s0.catalog) = ap (λ (c : OnPages). length c.bytes) (mid.4).catalog ∙ ap (λ (b : List ℕ). length b) (at.catalog).spelled in
-      none_needed mid.0 (catalog_bytes (record { documents = insert (s0.catalog).documents name new; rules = (s0.catalog).rules })) (omega (arith, same, was)) (lacks at.held mid.0 mid.1)
+      none_needed mid.0 (catalog_bytes (record { documents = insert (s0.catalog).documents name new; rules = (s0.catalog).rules })) (omega (arith, same, was)) (lacks saved mid.0 mid.1)
 
   -- what is counted of it is among what is counted of all
   among_all : (count : CutTree → ℕ) → count old.document ≤ sum (map count (values state.documents))
@@ -517,7 +558,7 @@ module _ {D : Type 0} (d : Ghosts D) (s0 s1 : Store) (x0 x1 : D) (name : List �
         → IsStoreLeft d s0 s1 x0 x1 × StepsRefused d (edit_command name path e) (edit_reply path error) s0 x0
     by_fault error refused = (
       record { runs = (refused.1).0; saved = (refused.1).1; catalog = catalog },
-      λ state at.
+      λ saved state at.
           refused_edit state name path e (old d s0 x0 state at name entry there).document error (shown_there d s0 x0 state at name entry there) can
           (fault_at d s0 x0 state at name entry there path e (Some error) (told_entry d s0 x0 state at name entry there (λ now document layout. edit_fault e path (settings_of s0.records).k (tree_of document) ≡ Some error) refused.2)),
     )
@@ -526,7 +567,7 @@ module _ {D : Type 0} (d : Ghosts D) (s0 s1 : Store) (x0 x1 : D) (name : List �
     edit_unmade edit.Disk refused = (refused.0, ((refused.1).before, (refused.1).after))
     edit_unmade edit.Full refused = (
       record { runs = refused.runs; saved = refused.keeps; catalog = catalog },
-      λ state at.
+      λ saved state at.
           let t = told_entry d s0 x0 state at name entry there (λ now document layout. (edit_fault e path (settings_of s0.records).k (tree_of document) ≡ None)
           × (now.free < edit_needs (tree_edit e path) (edit_kept e path) (edit_pages e) document layout)) refused.few in
           let s = old d s0 x0 state at name entry there in
@@ -536,7 +577,7 @@ module _ {D : Type 0} (d : Ghosts D) (s0 s1 : Store) (x0 x1 : D) (name : List �
           (λ behind pages_behind counted told. may_fill d s0 x0 state at name entry there behind pages_behind (1 + nodes (tree_edit e path (tree_of s.document)).below) (near_pages (edit_kept e path s.layout) + edit_pages e)
           (tree_pages (tree_edit e path (tree_of s.document))) counted told (contents_within state name path e s.document s.layout shown can fault ((stored_one d s0 x0 state at name entry there).laid).same) t.1),
     )
-    edit_unmade (edit.Damaged page) refused = (((refused.0).before, (refused.0).after), λ state at. none_entry d s0 x0 state at name entry there refused.1)
+    edit_unmade (edit.Damaged page) refused = (((refused.0).before, (refused.0).after), λ saved state at. none_entry d s0 x0 state at name entry there refused.1)
     edit_unmade edit.Ended refused = absurd (no_end s0.records runs refused.0)
     edit_unmade edit.Memory refused = record { runs = refused.0; saved = refused.1; catalog = catalog }
     edit_unmade edit.NoNode refused = by_fault edit.NoNode refused
@@ -561,10 +602,10 @@ module _ {D : Type 0} (d : Ghosts D) (s0 s1 : Store) (x0 x1 : D) (name : List �
     pub entry_unsaved : (error : StoreError) → NotStored d (λ was. catalog_needs (catalog_bytes (record { documents = insert (s0.catalog).documents name new; rules = (s0.catalog).rules })) was) (λ was. ⊥) 0 error s1.records s2.records x1 x2
         → IsSomeAnd (edit_error error) (λ told. EditNotPrepared d (edit_command name path e) path told s0 s2 x0 x2)
     entry_unsaved below.Disk refused = (later_rose (d.faults x0) (d.faults x1) (d.faults x2) still.faults_later refused.0, (goes.before, (refused.1).after))
-    entry_unsaved below.Full refused = (left_unsaved refused.runs refused.keeps, λ state at. absurd (entry_fits d s0 x0 state at name entry there s1.records x1 new rules e along comes refused.few))
+    entry_unsaved below.Full refused = (left_unsaved refused.runs refused.keeps, λ saved state at. absurd (entry_fits d s0 x0 state at name entry there s1.records x1 new rules e along comes refused.few))
     entry_unsaved (below.Damaged page) refused = (
       (goes.before, (refused.ends).after),
-      λ state at. let mid = rewritten d s0 x0 state at name entry there rules e along s1.records x1 new comes in refused.lacks at.held mid.0 mid.1,
+      λ saved state at. let mid = rewritten d s0 x0 state at name entry there rules e along s1.records x1 new comes in refused.lacks saved mid.0 mid.1,
     )
     entry_unsaved below.Memory refused = left_unsaved refused.0 refused.1
     entry_unsaved below.Ended refused = absurd (no_end s1.records goes.after refused.0)

@@ -1,11 +1,11 @@
 -- A document of a store taken away, before the commit.
-use Rattle.std.proofs.Common.{◌≡◌, ℕ, ◌+◌, ◌<◌, ◌≤◌, cond, List, [], ◌∷◌, ◌++◌, length, map, Option, None, Some, false, Less, Equal, Greater, is_eq, refl, sym, ap, ◌∙◌, subst, arith, append-nil}
-use Rattle.std.specs.Prelude.{All, option_map}
+use Rattle.std.proofs.Common.{◌≡◌, ℕ, ◌+◌, ◌<◌, ◌≤◌, cond, List, [], ◌∷◌, ◌++◌, length, map, Option, None, Some, false, Less, Equal, Greater, is_eq, refl, sym, ap, ◌∙◌, subst, arith, append-nil, inl, inr}
+use Rattle.std.specs.Prelude.{All, Contains, ◌≢◌, option_map}
 use Rattle.std.specs.Option.{is_some, option_map_or, IsSomeAnd}
 use Rattle.std.specs.FinMap.{entries, get, remove}
 use Rattle.std.proofs.Math.Nat.{mul-div-le}
 use Rattle.std.proofs.lemmas.Nat.{le-div}
-use Rattle.std.proofs.lemmas.List.Elements.{All-head, All-tail}
+use Rattle.std.proofs.lemmas.List.Elements.{All-head, All-tail, Contains-append_left, Contains-append_right, Contains-append_cases}
 use Rattle.std.proofs.lemmas.List.Sorted.{Contains-permutation, IsPermutation-sym}
 use Rattle.nx_host.specs.declared.disk.Disk.{Ghosts}
 use Rattle.nx_host.specs.Still.{IsStill}
@@ -18,8 +18,8 @@ use Rattle.nx_records.specs.Records.{has_ended, StandsFor, KeepsSaved, ComesTo}
 use Rattle.nx_records.specs.Changes.{SetsCatalog, catalog_needs}
 use Rattle.nx_records.specs.Refusals.{RunsOn, NotChanged}
 use Rattle.nx_cuts.specs.Cut.{CutTree}
-use Rattle.nx_script.specs.Field.{name_order}
-use Rattle.nx_script.specs.Rule.{HasLabels}
+use Rattle.nx_pyx.specs.DocumentName.{name_order}
+use Rattle.nx_matrix.specs.RuleLabels.{HasLabels}
 use Rattle.nx_script.specs.declared.command.Command.TheVariants.{Discard}
 use Rattle.nx_script.specs.declared.reply.Reply.TheVariants as reply
 use Rattle.nx_script.specs.declared.reply.ReplyError.{ReplyError}
@@ -40,13 +40,13 @@ use Rattle.nx_steps.specs.Step.{Step}
 use Rattle.nx_edit.specs.declared.error.EditError.{EditError}
 use Rattle.nx_edit.specs.declared.error.EditError.TheVariants as edit
 use Rattle.nx_edit.specs.Removing.{document_places, RemovesDocument, OfEntry, HasNone, OwnComes, NotRemoved}
-use Rattle.nx_store.specs.Store.{IsAt}
-use Rattle.nx_store.specs.Staying.{IsLeftBy, RecordsStay}
-use Rattle.nx_store.specs.Changing.{Prepares, NotPrepared}
+use Rattle.nx_store.specs.Store.{IsNow}
+use Rattle.nx_store.specs.Staying.{IsLeftBy, RecordsStay, OthersStay}
+use Rattle.nx_store.specs.Changing.{PreparesNow, NotPrepared}
 use Rattle.nx_store.specs.Told.{told_error, told_removal}
 use Rattle.nx_store.specs.declared.store.Store.{Store}
 use Rattle.nx_store.proofs.FoundLemmas.{found, get_found, map_some, same_some}
-use Rattle.nx_store.proofs.StayingLemmas.{change_leaves, catalog_leaves}
+use Rattle.nx_store.proofs.StayingLemmas.{alone_there, change_leaves, catalog_leaves}
 use Rattle.nx_store.proofs.KeepLemmas.{later_rose, no_end}
 use Rattle.nx_store.proofs.StepsLemmas.{refused_step, done_step}
 use Rattle.nx_store.proofs.OrderedLemmas.{name_same, removed_between}
@@ -69,9 +69,19 @@ among name (t ∷ stored) s e =
       | Greater ↦ λ q h. further h
     ] refl e
 
-one_of : (P : StoredDocument → Type 0) (before : List StoredDocument) (s : StoredDocument) (after : List StoredDocument) → All P (before ++ s ∷ after) → P s
+pub one_of : (P : StoredDocument → Type 0) (before : List StoredDocument) (s : StoredDocument) (after : List StoredDocument) → All P (before ++ s ∷ after) → P s
 one_of P [] s after h = All-head P s after h
 one_of P (t ∷ before) s after h = one_of P before s after (All-tail P t (before ++ s ∷ after) h)
+
+-- the others are there still
+pub others_left : (name : List ℕ) (before : List StoredDocument) (old : StoredDocument) (after : List StoredDocument) (s : StoredDocument) → old.name ≡ name → Contains (before ++ old ∷ after) s → s.name ≢ name → Contains (before ++ after) s
+others_left name before old after s named there other = elim (Contains-append_cases before (old ∷ after) s there) [
+  | inl early ↦ Contains-append_left before after s early
+  | inr later ↦ elim (Contains-append_cases (old ∷ []) after s later) [
+    | inl one ↦ absurd (other (ap (λ (x : StoredDocument). x.name) (sym (alone_there old s one)) ∙ named))
+    | inr late ↦ Contains-append_right before after s late
+  ]
+]
 
 -- a catalog that is no longer needs no page
 pub none_needed : (mid : Held) (bytes : List ℕ) → length bytes ≤ length mid.catalog.bytes → mid.free < catalog_needs bytes mid → ⊥
@@ -101,7 +111,7 @@ record IsGone (saved mid : Held) (state : State) (contents : Contents) (name : L
   pub documents : entries (remove state.documents name) ≡ map (λ (s : StoredDocument). (s.name, s.document)) stored
   pub settings : mid.settings ≡ saved.settings
 
-module _ {D : Type 0} (d : Ghosts D) (s0 : Store) (x0 : D) (state : State) (at : IsAt d s0 x0 state) (name : List ℕ) (entry : DocEntry) (there : get (s0.catalog).documents name ≡ Some entry) where
+module _ {D : Type 0} (d : Ghosts D) (s0 : Store) (x0 : D) {saved : Held} (state : State) (at : IsNow d s0 x0 saved state) (name : List ℕ) (entry : DocEntry) (there : get (s0.catalog).documents name ≡ Some entry) where
   pub contents_at : (at.state_is).contents ≡ s0.catalog
   contents_at = one_contents (at.held).catalog.bytes (at.state_is).contents s0.catalog (at.state_is).catalog at.catalog
 
@@ -131,7 +141,7 @@ module _ {D : Type 0} (d : Ghosts D) (s0 : Store) (x0 : D) (state : State) (at :
   pub told_entry : (P : Held → CutTree → Layout → Type 0) → OfEntry d s0.records x0 entry P → P at.held (the_one.0).document (the_one.0).layout
   told_entry P each =
       subst (λ (e : DocEntry). OfEntry d s0.records x0 e P) (sym the_one.2) each (the_one.0).document
-      (record { saved = at.held; now = at.held; stands = at.stands; pieces = holds_between.pieces; laid = record { layout = (the_one.0).layout; laid = stored_one.laid } }) holds_between.tidy stored_one.counted
+      (record { saved = saved; now = at.held; stands = at.stands; pieces = holds_between.pieces; laid = record { layout = (the_one.0).layout; laid = stored_one.laid } }) holds_between.tidy stored_one.counted
 
   -- so it isn't one that none is
   pub none_entry : HasNone d s0.records x0 entry → ⊥
@@ -140,13 +150,13 @@ module _ {D : Type 0} (d : Ghosts D) (s0 : Store) (x0 : D) (state : State) (at :
       (told_entry (λ now document layout. AreOwn now (document_places entry document layout) (contents_of layout) → ⊥) none) own_contents
 
   -- it went, with its contents
-  gone_one : (r1 : Records) (x1 : D) → OwnComes d s0.records r1 x0 x1 entry (RemovesDocument entry) → (mid : Held) × StandsFor d r1 x1 at.held mid × IsTidy mid × RemovesDocument (the_one.0).entry (the_one.0).document (the_one.0).layout at.held mid
+  gone_one : (r1 : Records) (x1 : D) → OwnComes d s0.records r1 x0 x1 entry (RemovesDocument entry) → (mid : Held) × StandsFor d r1 x1 saved mid × IsTidy mid × RemovesDocument (the_one.0).entry (the_one.0).document (the_one.0).layout at.held mid
   gone_one r1 x1 comes =
-      subst (λ (e : DocEntry). OwnComes d s0.records r1 x0 x1 e (RemovesDocument e)) (sym the_one.2) comes at.held at.held holds_between.pieces (the_one.0).document (the_one.0).layout at.stands holds_between.tidy stored_one.laid
+      subst (λ (e : DocEntry). OwnComes d s0.records r1 x0 x1 e (RemovesDocument e)) (sym the_one.2) comes saved at.held holds_between.pieces (the_one.0).document (the_one.0).layout at.stands holds_between.tidy stored_one.laid
       stored_one.counted own_contents
 
   gone : (r1 : Records) (x1 : D) → OwnComes d s0.records r1 x0 x1 entry (RemovesDocument entry)
-      → (mid : Held) × StandsFor d r1 x1 at.held mid × IsGone at.held mid state s0.catalog name × RecordsStay (IsLeftBy (Discard name)) (at.state_is).stored at.held mid
+      → (mid : Held) × StandsFor d r1 x1 saved mid × (m : IsGone at.held mid state s0.catalog name) × RecordsStay (IsLeftBy (Discard name)) (at.state_is).stored at.held mid × OthersStay name (at.state_is).stored m.stored
   gone r1 x1 comes =
       let mid = gone_one r1 x1 comes in
       let s = the_one.0 in
@@ -171,26 +181,25 @@ module _ {D : Type 0} (d : Ghosts D) (s0 : Store) (x0 : D) (state : State) (at :
         subst (λ (l : List StoredDocument). RecordsStay (IsLeftBy (Discard name)) l at.held mid.0) (sym place.are)
             (change_leaves (IsLeftBy (Discard name)) lost [] 0 at.held mid.0 place.before s [] place.after holds_between
             (subst (λ (ps : List RecordPlace). MovesRecords ps [] lost [] 0 at.held mid.0) (sym (append-nil (record_places s))) moves) (λ t p left. left.1) (λ p left. absurd (left.0 place.named))),
+        λ t there other. others_left name place.before s place.after t place.named (subst (λ (l : List StoredDocument). Contains l t) place.are there) other,
       )
 
   -- the document is no longer entered
   pub gone_prepared : (r1 : Records) (s2 : Store) (x1 x2 : D) → OwnComes d s0.records r1 x0 x1 entry (RemovesDocument entry) → (s2.catalog).documents ≡ remove (s0.catalog).documents name → (s2.catalog).rules ≡ (s0.catalog).rules
       → (All HasLabels (s0.catalog).rules → IsCatalog (catalog_bytes s2.catalog) s2.catalog) → ComesTo d r1 s2.records x1 x2 (λ was now. SetsCatalog (catalog_bytes s2.catalog) was now)
-      → (made : Prepares d state (Discard name) reply.Done s2 x2) × RecordsStay (IsLeftBy (Discard name)) (at.state_is).stored at.held (made.prepared).now
+      → (made : PreparesNow d saved state (Discard name) reply.Done s2 x2) × RecordsStay (IsLeftBy (Discard name)) (at.state_is).stored at.held (made.now).held × OthersStay name (at.state_is).stored ((made.now).state_is).stored
   gone_prepared r1 s2 x1 x2 comes documents rules form saves =
       let mid = gone r1 x1 comes in
       let m = mid.2 in
-      let now = saves at.held mid.0 mid.1 in
+      let now = saves saved mid.0 mid.1 in
       let formed = form (at.catalog).labels in (
         record {
           next = record state { documents = remove state.documents name };
           step = found_gone state name (the_one.0).document shown_there;
-          prepared = record {
-            saved = at.held;
-            now = now.0;
+          now = record {
+            held = now.0;
             stands = now.1;
-            was = at.state_is;
-            will = record {
+            state_is = record {
               settings = (now.2).settings ∙ m.settings ∙ (at.state_is).settings;
               stored = m.stored;
               holds = catalog_comes (catalog_bytes s2.catalog) mid.0 now.0 m.stored m.holds now.2;
@@ -204,6 +213,7 @@ module _ {D : Type 0} (d : Ghosts D) (s0 : Store) (x0 : D) (state : State) (at :
           };
         },
         catalog_leaves (IsLeftBy (Discard name)) (catalog_bytes s2.catalog) at.held mid.0 now.0 (at.state_is).stored now.2 mid.3,
+        mid.4,
       )
 
   -- the shorter catalog needs no page
@@ -213,13 +223,13 @@ module _ {D : Type 0} (d : Ghosts D) (s0 : Store) (x0 : D) (state : State) (at :
       let mid = gone r1 x1 comes in
       let less = length_less (s0.catalog).documents (s0.catalog).rules name (ap is_some there) in
       let was : length (mid.0).catalog.bytes ≡ length (catalog_bytes s0.catalog) = ap (λ (c : OnPages). length c.bytes) (mid.2).catalog ∙ ap (λ (b : List ℕ). length b) (at.catalog).spelled in
-      none_needed mid.0 (catalog_bytes (record { documents = remove (s0.catalog).documents name; rules = (s0.catalog).rules })) (omega (arith, less, was)) (lacks at.held mid.0 mid.1)
+      none_needed mid.0 (catalog_bytes (record { documents = remove (s0.catalog).documents name; rules = (s0.catalog).rules })) (omega (arith, less, was)) (lacks saved mid.0 mid.1)
 
 -- Why a document wasn't taken away.
 module _ {D : Type 0} (d : Ghosts D) (s0 s1 : Store) (x0 x1 : D) (name : List ℕ) (entry : DocEntry) (runs : has_ended s0.records ≡ false) (there : get (s0.catalog).documents name ≡ Some entry) where
   pub stays_there : s1.catalog ≡ s0.catalog → (e : EditError) → NotRemoved d entry e s0.records s1.records x0 x1 → IsSomeAnd (told_removal e) (λ told. NotPrepared d told s0 s1 x0 x1)
   stays_there catalog edit.Disk refused = (refused.0, ((refused.1).before, (refused.1).after))
-  stays_there catalog (edit.Damaged page) refused = (((refused.0).before, (refused.0).after), λ state at. none_entry d s0 x0 state at name entry there refused.1)
+  stays_there catalog (edit.Damaged page) refused = (((refused.0).before, (refused.0).after), λ saved state at. none_entry d s0 x0 state at name entry there refused.1)
   stays_there catalog edit.Memory refused = record { runs = refused.0; saved = refused.1; catalog = catalog }
   stays_there catalog edit.Ended refused = absurd (no_end s0.records runs refused.0)
   stays_there catalog edit.NoNode refused = absurd refused
@@ -236,7 +246,7 @@ module _ {D : Type 0} (d : Ghosts D) (s0 s1 : Store) (x0 x1 : D) (name : List �
   pub stays_entered : (s2 : Store) (x2 : D) → IsStill d x0 x1 → RunsOn s0.records s1.records → KeepsSaved d s0.records s1.records x0 x1 → OwnComes d s0.records s1.records x0 x1 entry (RemovesDocument entry) → s2.catalog ≡ s0.catalog → (e : StoreError)
       → NotChanged d (λ was. was.free < catalog_needs (catalog_bytes (record { documents = remove (s0.catalog).documents name; rules = (s0.catalog).rules })) was) 0 e s1.records s2.records x1 x2 → IsSomeAnd (told_error e) (λ told. NotPrepared d told s0 s2 x0 x2)
   stays_entered s2 x2 still goes keeps comes same below.Disk refused = (later_rose (d.faults x0) (d.faults x1) (d.faults x2) still.faults_later refused.0, (goes.before, (refused.1).after))
-  stays_entered s2 x2 still goes keeps comes same (below.Damaged page) refused = ((goes.before, (refused.ends).after), λ state at. room_behind d s0 x0 state at name entry there s1.records x1 comes refused.lacks)
+  stays_entered s2 x2 still goes keeps comes same (below.Damaged page) refused = ((goes.before, (refused.ends).after), λ saved state at. room_behind d s0 x0 state at name entry there s1.records x1 comes refused.lacks)
   stays_entered s2 x2 still goes keeps comes same below.Memory refused = record {
     runs = runs_then {r0 = s0.records} {r1 = s1.records} {r2 = s2.records} goes refused.0;
     saved = saved_then {d = d} {r0 = s0.records} {r1 = s1.records} {r2 = s2.records} {x0 = x0} {x1 = x1} {x2 = x2} keeps refused.1;

@@ -22,7 +22,10 @@ pub mod LoadLemmas
 pub mod KeepLemmas
 pub mod StepLemmas
 pub mod LogLemmas
-pub mod AppliedLemmas
 pub mod TextLemmas
 pub mod EndedLemmas
 pub mod NamingLemmas
+pub mod TransactLemmas
+pub mod LoadNextLemmas
+pub mod PrepareLemmas
+pub mod RenameLemmas

@@ -6,7 +6,7 @@ use Rattle.std.specs.Global.{Vec}
 use Rattle.std.specs.Map.Iter.{deref_pair}
 use Rattle.nx_hold.specs.declared.entry.DocEntry.{DocEntry}
 use Rattle.nx_script.specs.declared.reply.DocLine.{DocLine}
-use Rattle.nx_script.specs.Field.{by_bytes}
+use Rattle.nx_pyx.specs.DocumentName.{by_bytes}
 use Rattle.nx_store.specs.Told.{line_of}
 
 -- an entry of the catalog

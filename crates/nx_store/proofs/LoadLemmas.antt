@@ -1,9 +1,10 @@
 -- What the steps of a load make of a store that is at a state.
-use Rattle.std.proofs.Common.{◌≡◌, ℕ, ◌+◌, ◌*◌, ◌<◌, ◌≤◌, List, [], ◌∷◌, ◌++◌, length, map, None, refl, sym, ap, ◌∙◌, subst, arith, append-nil}
+use Rattle.std.proofs.Common.{◌≡◌, ℕ, ◌+◌, ◌*◌, ◌<◌, ◌≤◌, List, [], ◌∷◌, ◌++◌, length, map, None, refl, sym, ap, ◌∙◌, subst, arith, append-nil, inl, inr}
 use Rattle.std.specs.Prelude.{Contains}
 use Rattle.std.specs.List.{sum}
 use Rattle.std.specs.FinMap.{FinMap, entries, values, get, insert, find}
 use Rattle.std.proofs.lemmas.List.{length-map}
+use Rattle.std.proofs.lemmas.List.Elements.{Contains-append_left, Contains-append_right, Contains-append_cases}
 use Rattle.nx_tree.specs.Forest.{OrderedTree, nodes}
 use Rattle.nx_parts.specs.declared.interval.Interval.{Interval}
 use Rattle.nx_parts.specs.Order.{AreInOrder}
@@ -13,7 +14,7 @@ use Rattle.nx_holdings.specs.Holdings.{Held, Holds, chain_count}
 use Rattle.nx_records.specs.Changes.{SetsCatalog, catalog_needs}
 use Rattle.nx_cuts.specs.Cut.{CutTree, tree_of, parts_of}
 use Rattle.nx_layouts.specs.Layout.{RecordPlace, contents_of}
-use Rattle.nx_script.specs.Field.{name_order}
+use Rattle.nx_pyx.specs.DocumentName.{name_order}
 use Rattle.nx_hold.specs.declared.entry.DocEntry.{DocEntry}
 use Rattle.nx_hold.specs.Contents.{tree_pages}
 use Rattle.nx_hold.specs.Documents.{MovesRecords}
@@ -30,7 +31,7 @@ use Rattle.nx_state.proofs.ChangeLemmas.{document_comes, catalog_comes}
 use Rattle.nx_state.proofs.FreeLemmas.{documents_leave_free}
 use Rattle.nx_state.proofs.NodeLemmas.{all_two}
 use Rattle.nx_store.specs.Loading.{MayNotFit}
-use Rattle.nx_store.specs.Staying.{RecordStays, RecordsStay}
+use Rattle.nx_store.specs.Staying.{RecordStays, RecordsStay, AllStay}
 use Rattle.nx_store.proofs.StayingLemmas.{come_leaves}
 use Rattle.nx_store.proofs.NameLemmas.{front, behind, front-behind, none_either, none_listed, inserted_between}
 use Rattle.nx_store.proofs.PlanLemmas.{parts_are_planned}
@@ -105,6 +106,7 @@ pub record IsBrought (saved now : Held) (state : State) (contents : Contents) (a
   pub sizes : sum (map (λ (s : StoredDocument). document_size s.document) stored) ≡ all_nodes state + (1 + nodes tree.below)
   pub pages : sum (map (λ (s : StoredDocument). tree_pages (tree_of s.document)) stored) ≡ all_pages state + tree_pages tree
   pub stay : (s : StoredDocument) (place : RecordPlace) → Contains at.stored s → Contains (record_places s) place → RecordStays saved now place
+  pub all_stay : AllStay at.stored stored
 
 module _ (saved now : Held) (state : State) (contents : Contents) (at : HoldsState saved state) (catalog : IsCatalog saved.catalog.bytes contents) (name : List ℕ) (none : get contents.documents name ≡ None) (tree : OrderedTree) (parts : List Interval)
     (page slot count : ℕ) (stores : StoresDocument tree parts (record { page = page; slot = slot }) saved now) where
@@ -144,13 +146,17 @@ module _ (saved now : Held) (state : State) (contents : Contents) (at : HoldsSta
         stay = subst (λ (l : List StoredDocument). RecordsStay (λ s place. Contains (record_places s) place) l saved now) (all_are saved state contents at catalog name none)
             (come_leaves (λ s place. Contains (record_places s) place) (contents_of stores.layout) (store_needs tree) saved now front (new_document ∷ []) rest holds
             (subst (λ (ps : List RecordPlace). MovesRecords [] ps [] (contents_of stores.layout) (store_needs tree) saved now) (sym (append-nil (record_places new_document))) stores.adds) (λ s place among. among));
+        all_stay = λ s among. elim (Contains-append_cases front rest s (subst (λ (l : List StoredDocument). Contains l s) (sym (all_are saved state contents at catalog name none)) among)) [
+          | inl early ↦ Contains-append_left front (new_document ∷ rest) s early
+          | inr late ↦ Contains-append_right front (new_document ∷ rest) s (Contains-append_right (new_document ∷ []) rest s late)
+        ];
       }
 
 -- With the catalog set, they hold the state with the document.
 module _ (saved mid now : Held) (state : State) (contents changed : Contents) (at : HoldsState saved state) (name : List ℕ) (tree : OrderedTree) (parts : List Interval) (entry : DocEntry)
     (catalog : IsCatalog saved.catalog.bytes contents) (b : IsBrought saved mid state contents at name tree parts entry) (documents : changed.documents ≡ insert contents.documents name entry) (rules : changed.rules ≡ contents.rules)
     (form : IsCatalog (catalog_bytes changed) changed) where
-  pub set_state : SetsCatalog (catalog_bytes changed) mid now → HoldsState now (with_document state name b.document)
+  abbrev pub set_state : SetsCatalog (catalog_bytes changed) mid now → HoldsState now (with_document state name b.document)
   set_state sets = record {
     settings = sets.settings ∙ b.settings ∙ at.settings;
     stored = b.stored;

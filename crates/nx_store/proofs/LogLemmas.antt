@@ -1,6 +1,6 @@
 -- A store whose log was emptied, and what commands leave of the log.
 use Rattle.std.proofs.Common.{◌≡◌, ◌+◌, ◌<◌, ◌≤◌, [], Option, None, Some, inl, inr, true, refl, sym, ap, ◌∙◌, subst, arith}
-use Rattle.std.specs.Prelude.{◌≢◌, nat_lt, if◌then◌else◌}
+use Rattle.std.specs.Prelude.{◌≢◌, ◌⊎◌, nat_lt, if◌then◌else◌}
 use Rattle.std.proofs.lemmas.Bool.{le-ltb, lt-ltb}
 use Rattle.std.proofs.lemmas.Bool.{false≢true}
 use Rattle.std.specs.Prelude.{IsSome}
@@ -19,8 +19,12 @@ use Rattle.nx_script.specs.declared.command.Command.{Command}
 use Rattle.nx_script.specs.declared.command.Command.TheVariants.{Checkpoint}
 use Rattle.nx_state.specs.State.{State}
 use Rattle.nx_steps.specs.Step.{may_change}
-use Rattle.nx_store.specs.Store.{longest_log, IsAt, IsOf, IsShortened, LeavesLog}
-use Rattle.nx_store.specs.Staying.{HoldsOn}
+use Rattle.nx_script.specs.declared.reply.Reply.{Reply}
+use Rattle.nx_store.specs.Store.{longest_log, IsAt, IsOf, IsShortened, HoldsOn, AddsGroup, AddsNoGroup, GoesThrough, LeavesLog}
+use Rattle.nx_script.specs.declared.request.Request.{Request}
+use Rattle.nx_script.specs.declared.request.Request.TheVariants.{Single}
+use Rattle.nx_script.specs.declared.request.Answer.{Answer}
+use Rattle.nx_script.specs.declared.request.Answer.TheVariants.{One}
 use Rattle.nx_store.specs.declared.store.Store.{Store}
 use Rattle.nx_store.proofs.FoundLemmas.{same_some}
 
@@ -60,16 +64,16 @@ module _ {D : Type 0} {d : Ghosts D} (s0 : Store) (r1 : Records) (x0 : D) (follo
   emptied_log x1 none_there state now at settled = let keeps = (dropped state at).keeps in none_counted now (none_there keeps.image now keeps.step settled.here)
 
 -- a command that may change a store is no checkpoint
-pub changes_other : (command : Command) → may_change command ≡ true → command ≢ Checkpoint
-changes_other command may is = false≢true (ap may_change (sym is) ∙ may)
+pub changes_other : (command : Command) → may_change command ≡ true → Single command ≢ Single Checkpoint
+changes_other command may is = let same : command ≡ Checkpoint = cc in false≢true (ap may_change (sym same) ∙ may)
 
 module _ {D : Type 0} (d : Ghosts D) where
   -- there is one image
-  one_image : (x : D) (was now : Image) → IsSettled d x was → IsSettled d x now → now ≡ was
+  pub one_image : (x : D) (was now : Image) → IsSettled d x was → IsSettled d x now → now ≡ was
   one_image x was now one other = same_some (sym other.here ∙ one.here)
 
   -- the log of a store at a state is as long as its records say
-  log_at : (s : Store) (x : D) (state : State) (was : Image) → IsAt d s x state → IsSettled d x was → log_length_of s.records ≡ log_end was
+  pub log_at : (s : Store) (x : D) (state : State) (was : Image) → IsAt d s x state → IsSettled d x was → log_length_of s.records ≡ log_end was
   log_at s x state was at settled =
       let keeps = (at.stands).keeps in
       ends_there s.records keeps.step ∙ ap log_end (sym (one_image x keeps.image was (keeps.step).settled settled))
@@ -83,44 +87,70 @@ module _ {D : Type 0} (d : Ghosts D) where
   pub short_shortened : (s : Store) (x : D) (state : State) (was now : Image) → log_length_of s.records ≤ longest_log → IsAt d s x state → IsSettled d x was → IsSettled d x now → IsShortened was now
   short_shortened s x state was now short at before after = let ends = log_at s x state was at before in inr (omega (arith, short, ends), one_image x was now before after)
 
-  -- a command that leaves the state leaves the log
-  pub log_stays : (command : Command) (state : State) (before after : D) → command ≢ Checkpoint → LeavesLog d command state state before after
-  log_stays command state before after other = record { emptied = λ is. absurd (other is); grown = λ changed. absurd (changed refl) }
+  -- where nothing was written it stays
+  pub still_none : (s2 : Store) (x0 x1 : D) (state : State) → IsStill d x0 x1 → IsAt d s2 x1 state → AddsNoGroup d x0 x1
+  still_none s2 x0 x1 state still after was image before may =
+      let step = ((after.stands).keeps).step in
+      let same : ((after.stands).keeps).image ≡ was = one_image x1 was ((after.stands).keeps).image (settled_still still before) (step.settled) in
+      inl ((step.settled).only image may ∙ same)
 
-  -- ... and so does a checkpoint, which empties it
-  pub log_emptied : (s : Store) (state : State) (before after : D) → ((now : Image) → IsSettled d after now → image_group_count now ≡ 0) → IsAt d s after state → LeavesLog d Checkpoint state state before after
-  log_emptied s state before after none at =
+  -- a request that leaves the state, and for which nothing was written, leaves the log
+  pub log_stays : (request : Request) (answer : Answer) (state : State) (before after : D) → request ≢ Single Checkpoint → (GoesThrough request answer → ⊥) → AddsNoGroup d before after → LeavesLog d request answer state state before after
+  log_stays request answer state before after other through none =
+      record { emptied = λ is. absurd (other is); grown = λ changed. absurd (changed refl); once = λ goes. absurd (through goes); none = λ nothing. none }
+
+  -- ... as a command does by itself
+  pub log_of_command : (command : Command) (r : Reply) (state : State) (before after : D) → command ≢ Checkpoint → LeavesLog d (Single command) (One r) state state before after
+  log_of_command command r state before after other =
+      record { emptied = λ is. absurd (other (cc)); grown = λ changed. absurd (changed refl); once = λ goes. absurd goes; none = λ nothing. absurd nothing }
+
+  -- a checkpoint empties it
+  pub log_emptied : (s : Store) (r : Reply) (state : State) (before after : D) → ((now : Image) → IsSettled d after now → image_group_count now ≡ 0) → IsAt d s after state → LeavesLog d (Single Checkpoint) (One r) state state before after
+  log_emptied s r state before after none at =
       let keeps = (at.stands).keeps in
       let settled = (keeps.step).settled in record {
         emptied = λ is image may. subst (λ (i : Image). image_group_count i ≡ 0) (sym (settled.only image may)) (none keeps.image settled);
         grown = λ changed. absurd (changed refl);
+        once = λ goes. absurd goes;
+        none = λ nothing. absurd nothing;
       }
 
   -- a commit over a short log adds a group
-  pub log_grows : (command : Command) (state next : State) (s0 : Store) (r1 r2 : Records) (x0 x1 x2 : D) (g : Group) → command ≢ Checkpoint → log_length_of s0.records ≤ longest_log → IsAt d s0 x0 state → IsStill d x0 x1
+  pub adds_one : (state : State) (s0 : Store) (r1 r2 : Records) (x0 x1 x2 : D) (g : Group) → log_length_of s0.records ≤ longest_log → IsAt d s0 x0 state → IsStill d x0 x1
       → (mid : Image) → IsInStepWith d r1 x1 mid → ((was now : Image) → IsInStepWith d r1 x1 was → d.contents x2 ≡ Some now → HasGroup g was now)
-      → ((was now : Image) → IsInStepWith d r1 x1 was → d.contents x2 ≡ Some now → IsInStepWith d r2 x2 now) → IsSome (d.contents x2) → LeavesLog d command state next x0 x2
-  log_grows command state next s0 r1 r2 x0 x1 x2 g other short at still mid step more after told = record {
-    emptied = λ is. absurd (other is);
-    grown = λ changed was image before may.
-        let now = some_value (d.contents x2) told in
-        let ends = log_at s0 x0 state was at before in
-        let same : mid ≡ was = one_image x1 was mid (settled_still still before) step.settled in
-        let counted : image_group_count now.0 ≡ image_group_count was + 1 = one_more g mid now.0 (more mid now.0 step now.1) ∙ ap (λ (i : Image). image_group_count i + 1) same in
-        subst (λ (i : Image). image_group_count i ≡ (if nat_lt longest_log (log_end was) then 1 else image_group_count was + 1)) (sym (((after mid now.0 step now.1).settled).only image may))
-        (counted ∙ ap (λ b. if b then 1 else image_group_count was + 1) (sym (le-ltb longest_log (log_end was) (omega (arith, short, ends)))));
-  }
+      → ((was now : Image) → IsInStepWith d r1 x1 was → d.contents x2 ≡ Some now → IsInStepWith d r2 x2 now) → IsSome (d.contents x2) → AddsGroup d x0 x2
+  adds_one state s0 r1 r2 x0 x1 x2 g short at still mid step more after told was image before may =
+      let now = some_value (d.contents x2) told in
+      let ends = log_at s0 x0 state was at before in
+      let same : mid ≡ was = one_image x1 was mid (settled_still still before) step.settled in
+      let counted : image_group_count now.0 ≡ image_group_count was + 1 = one_more g mid now.0 (more mid now.0 step now.1) ∙ ap (λ (i : Image). image_group_count i + 1) same in
+      subst (λ (i : Image). image_group_count i ≡ (if nat_lt longest_log (log_end was) then 1 else image_group_count was + 1)) (sym (((after mid now.0 step now.1).settled).only image may))
+      (counted ∙ ap (λ b. if b then 1 else image_group_count was + 1) (sym (le-ltb longest_log (log_end was) (omega (arith, short, ends)))))
 
-  -- ... behind one that was shortened
-  pub log_later : (command : Command) (state next : State) (x0 x1 x2 : D) (mid : Image) → IsSettled d x1 mid → ((was : Image) → IsSettled d x0 was → IsShortened was mid) → LeavesLog d command state next x1 x2 → LeavesLog d command state next x0 x2
-  log_later command state next x0 x1 x2 mid settled shortened leaves = record {
-    emptied = leaves.emptied;
-    grown = λ changed was image before may. counted was image (shortened was before) (leaves.grown changed mid image settled may);
-  }
-    where
-      counted : (was image : Image) → IsShortened was mid → image_group_count image ≡ (if nat_lt longest_log (log_end mid) then 1 else image_group_count mid + 1)
-          → image_group_count image ≡ (if nat_lt longest_log (log_end was) then 1 else image_group_count was + 1)
-      counted was image (inl long) is =
-          is ∙ ap (λ b. if b then 1 else image_group_count mid + 1) (le-ltb longest_log (log_end mid) (let none = ends_at_none mid long.1 in omega (arith, none)))
-          ∙ ap (λ n. n + 1) long.1 ∙ ap (λ b. if b then 1 else image_group_count was + 1) (sym (lt-ltb longest_log (log_end was) long.0))
-      counted was image (inr short) is = subst (λ (i : Image). image_group_count image ≡ (if nat_lt longest_log (log_end i) then 1 else image_group_count i + 1)) short.1 is
+  -- what is left of a log that was shortened first
+  module _ (x0 x1 x2 : D) (mid : Image) (settled : IsSettled d x1 mid) (shortened : (was : Image) → IsSettled d x0 was → IsShortened was mid) where
+    adds_later : AddsGroup d x1 x2 → AddsGroup d x0 x2
+    adds_later adds was image before may = counted (shortened was before) (adds mid image settled may)
+      where
+        counted : IsShortened was mid → image_group_count image ≡ (if nat_lt longest_log (log_end mid) then 1 else image_group_count mid + 1)
+            → image_group_count image ≡ (if nat_lt longest_log (log_end was) then 1 else image_group_count was + 1)
+        counted (inl long) is =
+            is ∙ ap (λ b. if b then 1 else image_group_count mid + 1) (le-ltb longest_log (log_end mid) (let none = ends_at_none mid long.1 in omega (arith, none)))
+            ∙ ap (λ n. n + 1) long.1 ∙ ap (λ b. if b then 1 else image_group_count was + 1) (sym (lt-ltb longest_log (log_end was) long.0))
+        counted (inr short) is = subst (λ (i : Image). image_group_count image ≡ (if nat_lt longest_log (log_end i) then 1 else image_group_count i + 1)) short.1 is
+
+    none_later : AddsNoGroup d x1 x2 → AddsNoGroup d x0 x2
+    none_later adds was image before may = both (shortened was before) (adds mid image settled may)
+      where
+        both : IsShortened was mid → (image ≡ mid) ⊎ ((longest_log < log_end mid) × (image_group_count image ≡ 0)) → (image ≡ was) ⊎ ((longest_log < log_end was) × (image_group_count image ≡ 0))
+        both (inl long) (inl same) = inr (long.0, ap image_group_count same ∙ long.1)
+        both (inl long) (inr again) = inr (long.0, again.1)
+        both (inr short) after = subst (λ (i : Image). (image ≡ i) ⊎ ((longest_log < log_end i) × (image_group_count image ≡ 0))) short.1 after
+
+    pub log_later : (request : Request) (answer : Answer) (state next : State) → LeavesLog d request answer state next x1 x2 → LeavesLog d request answer state next x0 x2
+    log_later request answer state next leaves = record {
+      emptied = leaves.emptied;
+      grown = λ changed. adds_later (leaves.grown changed);
+      once = λ goes. adds_later (leaves.once goes);
+      none = λ nothing. none_later (leaves.none nothing);
+    }

@@ -7,7 +7,7 @@ use Rattle.std.specs.FinMap.{FinMap, find, put, is_sorted, entries, insert, remo
 use Rattle.std.specs.FinMap.Entries.{by_order, below_all}
 use Rattle.std.specs.Cmp.Lexicographic.{nat_list_cmp_total}
 use Rattle.std.proofs.lemmas.List.{map-append}
-use Rattle.nx_script.specs.Field.{name_order}
+use Rattle.nx_pyx.specs.DocumentName.{name_order}
 use Rattle.nx_store.proofs.NameLemmas.{map-between}
 
 t_first : (a b : Bool) → T (a && b) → T a

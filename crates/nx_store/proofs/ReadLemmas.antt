@@ -1,6 +1,6 @@
 -- How many pages are read for a command, and what is held behind one that changes nothing.
 use Rattle.std.proofs.Common.{◌≡◌, ◌≤◌, ◌+◌, ◌*◌, ◌-◌, ◌/◌, ℕ, true, false, List, [], ◌∷◌, length, Option, None, Some, Result, Ok, Err, refl, sym, subst, ◌∙◌, arith, inl}
-use Rattle.std.specs.Prelude.{IsSome, IfSome, OnOk}
+use Rattle.std.specs.Prelude.{IsSome, IfSome, IfErr, OnOk}
 use Rattle.std.proofs.lemmas.Bool.{false≢true}
 use Rattle.std.specs.FinMap.{get}
 use Rattle.nx_host.specs.Disk.{Image}
@@ -25,11 +25,13 @@ use Rattle.nx_nav.specs.Along.{ReadsAlong, ReadsShown}
 use Rattle.nx_nav.specs.Early.{LeavesOutput}
 use Rattle.nx_script.specs.declared.command.Command.{Command}
 use Rattle.nx_script.specs.declared.command.Command.TheVariants as command
+use Rattle.nx_script.specs.declared.reply.Reply.{Reply}
 use Rattle.nx_steps.specs.Step.{may_change}
-use Rattle.nx_store.specs.Store.{is_ended, LeavesStore}
-use Rattle.nx_store.specs.Staying.{HoldsOn}
+use Rattle.nx_store.specs.Store.{is_ended, HoldsOn, RefusedHolds, GoesOn, NotApplied, LeavesStore}
 use Rattle.nx_store.specs.Reads.{ReadsOpening, is_lookup, needs_no_page, GetReads, ReadsWithin, ReadsToFirst}
 use Rattle.nx_store.specs.declared.store.Store.{Store}
+use Rattle.nx_store.specs.declared.error.EngineError.{EngineError}
+use Rattle.nx_store.specs.declared.error.EngineError.TheVariants as error
 use Rattle.nx_store.proofs.AtLemmas.{at_runs, at_beside}
 use Rattle.nx_store.proofs.FoundLemmas.{at_none, at_stored}
 use Rattle.nx_store.proofs.StayingLemmas.{held_on}
@@ -68,6 +70,7 @@ no_content {new = new} along = record { between = new; along = along; content = 
 pub no_lookup : (c : Command) → may_change c ≡ true → is_lookup c ≡ false
 no_lookup (command.Load name body) may = refl
 no_lookup (command.Discard name) may = refl
+no_lookup (command.Rename old new) may = refl
 no_lookup command.Names may = absurd (false≢true may)
 no_lookup (command.Export name) may = absurd (false≢true may)
 no_lookup (command.Insert name path said) may = refl
@@ -78,12 +81,15 @@ no_lookup (command.Layout name) may = absurd (false≢true may)
 no_lookup (command.SetRule rule) may = refl
 no_lookup command.Rules may = absurd (false≢true may)
 no_lookup command.Checkpoint may = absurd (false≢true may)
+no_lookup (command.Begin bare) may = absurd (false≢true may)
+no_lookup command.Commit may = absurd (false≢true may)
 no_lookup command.Bad may = absurd (false≢true may)
 
 -- ... and one that needs no page is one
 no_page_lookup : (c : Command) → needs_no_page c ≡ true → is_lookup c ≡ true
 no_page_lookup (command.Load name body) none = absurd (false≢true none)
 no_page_lookup (command.Discard name) none = absurd (false≢true none)
+no_page_lookup (command.Rename old new) none = absurd (false≢true none)
 no_page_lookup command.Names none = refl
 no_page_lookup (command.Export name) none = absurd (false≢true none)
 no_page_lookup (command.Insert name path said) none = absurd (false≢true none)
@@ -94,6 +100,8 @@ no_page_lookup (command.Layout name) none = absurd (false≢true none)
 no_page_lookup (command.SetRule rule) none = absurd (false≢true none)
 no_page_lookup command.Rules none = refl
 no_page_lookup command.Checkpoint none = absurd (false≢true none)
+no_page_lookup (command.Begin bare) none = refl
+no_page_lookup command.Commit none = refl
 no_page_lookup command.Bad none = refl
 
 -- so one that may change something needs some
@@ -105,6 +113,7 @@ module _ {D : Type 0} (d : Ghosts D) where
   pub other_reads : (c : Command) (s : Store) (x0 x1 : D) → is_lookup c ≡ false → ReadsWithin d c s x0 x1
   other_reads (command.Load name body) s x0 x1 other state at = (d.reads x1 - d.reads x0, some_more (d.reads x0) (d.reads x1), tt)
   other_reads (command.Discard name) s x0 x1 other state at = (d.reads x1 - d.reads x0, some_more (d.reads x0) (d.reads x1), tt)
+  other_reads (command.Rename old new) s x0 x1 other state at = (d.reads x1 - d.reads x0, some_more (d.reads x0) (d.reads x1), tt)
   other_reads command.Names s x0 x1 other state at = absurd (false≢true (sym other))
   other_reads (command.Export name) s x0 x1 other state at = (d.reads x1 - d.reads x0, some_more (d.reads x0) (d.reads x1), tt)
   other_reads (command.Insert name path said) s x0 x1 other state at = (d.reads x1 - d.reads x0, some_more (d.reads x0) (d.reads x1), tt)
@@ -115,12 +124,15 @@ module _ {D : Type 0} (d : Ghosts D) where
   other_reads (command.SetRule rule) s x0 x1 other state at = (d.reads x1 - d.reads x0, some_more (d.reads x0) (d.reads x1), tt)
   other_reads command.Rules s x0 x1 other state at = absurd (false≢true (sym other))
   other_reads command.Checkpoint s x0 x1 other state at = (d.reads x1 - d.reads x0, some_more (d.reads x0) (d.reads x1), tt)
+  other_reads (command.Begin bare) s x0 x1 other state at = absurd (false≢true (sym other))
+  other_reads command.Commit s x0 x1 other state at = absurd (false≢true (sym other))
   other_reads command.Bad s x0 x1 other state at = absurd (false≢true (sym other))
 
   -- one that needs no page reads none
   pub unread_reads : (c : Command) (s : Store) (x0 x1 : D) → needs_no_page c ≡ true → d.reads x1 ≡ d.reads x0 → ReadsWithin d c s x0 x1
   unread_reads (command.Load name body) s x0 x1 none same state at = absurd (false≢true none)
   unread_reads (command.Discard name) s x0 x1 none same state at = absurd (false≢true none)
+  unread_reads (command.Rename old new) s x0 x1 none same state at = absurd (false≢true none)
   unread_reads command.Names s x0 x1 none same state at = (0, omega (arith, same), refl)
   unread_reads (command.Export name) s x0 x1 none same state at = absurd (false≢true none)
   unread_reads (command.Insert name path said) s x0 x1 none same state at = absurd (false≢true none)
@@ -131,6 +143,8 @@ module _ {D : Type 0} (d : Ghosts D) where
   unread_reads (command.SetRule rule) s x0 x1 none same state at = absurd (false≢true none)
   unread_reads command.Rules s x0 x1 none same state at = (0, omega (arith, same), refl)
   unread_reads command.Checkpoint s x0 x1 none same state at = absurd (false≢true none)
+  unread_reads (command.Begin bare) s x0 x1 none same state at = (0, omega (arith, same), refl)
+  unread_reads command.Commit s x0 x1 none same state at = (0, omega (arith, same), refl)
   unread_reads command.Bad s x0 x1 none same state at = (0, omega (arith, same), refl)
 
   -- a store that has ended is at no state
@@ -210,6 +224,17 @@ module _ {D : Type 0} (d : Ghosts D) where
       (leaves_stand {r0 = s0.records} {r1 = s1.records} left.records still at.stands, (left.records).changes_stay ∙ at.none_waits, left.catalog)
 
   -- nothing was done
+  -- ... so one that is refused, or for which there was no memory
+  pub looked_kept : (s0 s1 : Store) (x0 x1 : D) (r : Result Reply EngineError) → IsStill d x0 x1 → (is_ended s1 ≡ false → LeavesStore s0 s1) → OnOk r (GoesOn s0 s1) → IfErr r (λ e. NotApplied d e s0 s1 x0 x1) → RefusedHolds d r s0 s1 x0 x1
+  looked_kept s0 s1 x0 x1 (Ok reply) still same on refused = λ is. looked_holds s0 s1 x0 x1 (same on.1) still
+  looked_kept s0 s1 x0 x1 (Err error.Memory) still same on refused = looked_holds s0 s1 x0 x1 (same refused.1) still
+  looked_kept s0 s1 x0 x1 (Err error.Disk) still same on refused = tt
+  looked_kept s0 s1 x0 x1 (Err (error.Damaged page)) still same on refused = tt
+  looked_kept s0 s1 x0 x1 (Err error.Write) still same on refused = tt
+  looked_kept s0 s1 x0 x1 (Err error.Ended) still same on refused = tt
+  looked_kept s0 s1 x0 x1 (Err error.Exists) still same on refused = tt
+  looked_kept s0 s1 x0 x1 (Err error.NotAStore) still same on refused = tt
+
   pub unasked_holds : (s : Store) (x : D) → HoldsOn d s s x x
   unasked_holds s x state at told = (at.stands, at.none_waits, refl)
 

@@ -9,7 +9,7 @@ use Rattle.nx_host.specs.declared.disk.Disk.{Ghosts}
 use Rattle.nx_tree.specs.Forest.{nodes}
 use Rattle.nx_wal.specs.Wal.{current}
 use Rattle.nx_holdings.specs.declared.header.Settings.{Settings}
-use Rattle.nx_holdings.specs.Holdings.{chain_count}
+use Rattle.nx_holdings.specs.Holdings.{Held, chain_count}
 use Rattle.nx_records.specs.declared.error.StoreError.TheVariants as below
 use Rattle.nx_records.specs.Records.{has_ended, ComesTo}
 use Rattle.nx_records.specs.Changes.{SetsCatalog}
@@ -18,7 +18,7 @@ use Rattle.nx_matrix.specs.declared.rule.Entry.TheVariants.{Standalone, Cluster,
 use Rattle.nx_matrix.specs.declared.rule.Rule.{Rule}
 use Rattle.nx_matrix.specs.declared.error.MatrixError.TheVariants as matrix
 use Rattle.nx_matrix.specs.Rules.{AreRules, IsRuleRefused, has_rule, most_rules, is_free}
-use Rattle.nx_script.specs.Rule.{HasLabels}
+use Rattle.nx_matrix.specs.RuleLabels.{HasLabels}
 use Rattle.nx_script.specs.declared.command.Command.TheVariants.{SetRule}
 use Rattle.nx_script.specs.declared.reply.Reply.TheVariants as reply
 use Rattle.nx_script.specs.declared.reply.ReplyError.TheVariants.{TooManyRules, Full}
@@ -39,9 +39,9 @@ use Rattle.nx_steps.specs.Answers.{MayBeFull}
 use Rattle.nx_steps.specs.Refusal.{rule_fault}
 use Rattle.nx_steps.specs.Step.{nodes_after, pages_after, Step}
 use Rattle.nx_steps.proofs.CountLemmas.{room_counted}
-use Rattle.nx_store.specs.Store.{IsAt}
-use Rattle.nx_store.specs.Staying.{IsLeftBy, RecordsStay}
-use Rattle.nx_store.specs.Changing.{Prepares, RuleNotPrepared}
+use Rattle.nx_store.specs.Store.{IsNow}
+use Rattle.nx_store.specs.Staying.{IsLeftBy, RecordsStay, AllStay}
+use Rattle.nx_store.specs.Changing.{PreparesNow, RuleNotPrepared}
 use Rattle.nx_store.specs.declared.store.Store.{Store}
 use Rattle.nx_store.proofs.KeepLemmas.{no_end}
 use Rattle.nx_store.proofs.StayingLemmas.{catalog_alone}
@@ -91,7 +91,7 @@ rule_fits old new rule are makes =
 
 -- ---- the state with the rule
 
-module _ {D : Type 0} (d : Ghosts D) (s0 : Store) (x0 : D) (state : State) (at : IsAt d s0 x0 state) where
+module _ {D : Type 0} (d : Ghosts D) (s0 : Store) (x0 : D) {saved : Held} (state : State) (at : IsNow d s0 x0 saved state) where
   contents_at : (at.state_is).contents ≡ s0.catalog
   contents_at = one_contents (at.held).catalog.bytes (at.state_is).contents s0.catalog (at.state_is).catalog at.catalog
 
@@ -111,21 +111,19 @@ module _ {D : Type 0} (d : Ghosts D) (s0 : Store) (x0 : D) (state : State) (at :
 
   pub rule_prepared : (s2 : Store) (x2 : D) (rule : Rule) → (s2.catalog).documents ≡ (s0.catalog).documents → MakesRule (s0.catalog).rules rule (s2.catalog).rules → IsCatalog (catalog_bytes s2.catalog) s2.catalog
       → ComesTo d s0.records s2.records x0 x2 (λ was now. SetsCatalog (catalog_bytes s2.catalog) was now)
-      → (made : Prepares d state (SetRule rule) reply.Done s2 x2) × RecordsStay (IsLeftBy (SetRule rule)) (at.state_is).stored at.held (made.prepared).now
+      → (made : PreparesNow d saved state (SetRule rule) reply.Done s2 x2) × RecordsStay (IsLeftBy (SetRule rule)) (at.state_is).stored at.held (made.now).held × AllStay (at.state_is).stored ((made.now).state_is).stored
   rule_prepared s2 x2 rule documents makes formed saves =
-      let now = saves at.held at.held at.stands in
+      let now = saves saved at.held at.stands in
       let made : MakesRule state.rules rule (s2.catalog).rules = subst (λ (rs : List Rule). MakesRule rs rule (s2.catalog).rules) rules_at makes in
       let old : AreRules state.rules = subst AreRules rules_at (at.catalog).rules in (
         record {
           next = record state { rules = (s2.catalog).rules };
           step = done_step state (SetRule rule) (record state { rules = (s2.catalog).rules }) (rule_fits state.rules (s2.catalog).rules rule old made)
               (refl, record { rules = (s2.catalog).rules; are_rules = made.are; sets = made.sets; next_is = refl });
-          prepared = record {
-            saved = at.held;
-            now = now.0;
+          now = record {
+            held = now.0;
             stands = now.1;
-            was = at.state_is;
-            will = record {
+            state_is = record {
               settings = (now.2).settings ∙ (at.state_is).settings;
               stored = (at.state_is).stored;
               holds = catalog_comes (catalog_bytes s2.catalog) at.held now.0 (at.state_is).stored (at.state_is).holds now.2;
@@ -139,6 +137,7 @@ module _ {D : Type 0} (d : Ghosts D) (s0 : Store) (x0 : D) (state : State) (at :
           };
         },
         catalog_alone (IsLeftBy (SetRule rule)) (catalog_bytes s2.catalog) at.held now.0 (at.state_is).stored now.2,
+        λ s there. there,
       )
 
   pub rule_many : (rule : Rule) → IsRuleRefused (s0.catalog).rules rule.parent rule.child rule.entry matrix.TooManyRules → Step state (SetRule rule) (reply.Refused TooManyRules) state
@@ -154,7 +153,7 @@ module _ {D : Type 0} (d : Ghosts D) (s0 : Store) (x0 : D) (state : State) (at :
       full_step state (SetRule rule) none
       (record {
         needs = refl;
-        full = room (nodes_after state (SetRule rule)) (pages_after state (SetRule rule)) counted told finds.rules labels finds.makes ((finds.full).few at.held at.held at.stands);
+        full = room (nodes_after state (SetRule rule)) (pages_after state (SetRule rule)) counted told finds.rules labels finds.makes ((finds.full).few saved at.held at.stands);
         refused = (refl, refl);
       })
     where
@@ -185,14 +184,14 @@ pub rule_unprepared : {D : Type 0} (d : Ghosts D) (s0 s1 : Store) (x0 x1 : D) (r
     → NotRuled d s0.catalog rule e s0.records s1.records x0 x1 → RuleNotPrepared d (SetRule rule) e s0 s1 x0 x1
 rule_unprepared d s0 s1 x0 x1 rule runs labels catalog rules.TooManyRules refused = (
   record { runs = refused.1; saved = refused.2; catalog = catalog },
-  λ state at. rule_many d s0 x0 state at rule refused.0,
+  λ saved state at. rule_many d s0 x0 state at rule refused.0,
 )
 rule_unprepared d s0 s1 x0 x1 rule runs labels catalog (rules.Store below.Full) refused = (
   record { runs = (refused.full).runs; saved = (refused.full).keeps; catalog = catalog },
-  λ state at. rule_full d s0 x0 state at s1 x1 rule labels refused,
+  λ saved state at. rule_full d s0 x0 state at s1 x1 rule labels refused,
 )
 rule_unprepared d s0 s1 x0 x1 rule runs labels catalog (rules.Store below.Disk) refused = (refused.0, ((refused.1).before, (refused.1).after))
-rule_unprepared d s0 s1 x0 x1 rule runs labels catalog (rules.Store (below.Damaged page)) refused = (((refused.ends).before, (refused.ends).after), λ state at. refused.lacks at.held at.held at.stands)
+rule_unprepared d s0 s1 x0 x1 rule runs labels catalog (rules.Store (below.Damaged page)) refused = (((refused.ends).before, (refused.ends).after), λ saved state at. refused.lacks saved at.held at.stands)
 rule_unprepared d s0 s1 x0 x1 rule runs labels catalog (rules.Store below.Memory) refused = record { runs = refused.0; saved = refused.1; catalog = catalog }
 rule_unprepared d s0 s1 x0 x1 rule runs labels catalog (rules.Store below.Ended) refused = absurd (no_end s0.records runs refused.0)
 rule_unprepared d s0 s1 x0 x1 rule runs labels catalog (rules.Store below.Exists) refused = absurd refused

@@ -1,6 +1,6 @@
 -- What stood meanwhile, and how a result is handed on.
 use Rattle.std.proofs.Common.{◌≡◌, ℕ, List, sym, subst, ◌∙◌, false, inl, inr}
-use Rattle.std.specs.Prelude.{◌≢◌, IsSome, Result, Ok, Err, IfOk, IfErr}
+use Rattle.std.specs.Prelude.{◌≢◌, IsSome, Result, Ok, Err, IfOk, IfErr, OnOk}
 use Rattle.std.proofs.lemmas.Bool.{false≢true}
 use Rattle.nx_host.specs.Disk.{Image, Keeps}
 use Rattle.nx_host.specs.declared.disk.Disk.{Ghosts}
@@ -12,17 +12,23 @@ use Rattle.nx_script.specs.declared.command.Command.TheVariants.{Checkpoint}
 use Rattle.nx_script.specs.declared.reply.Reply.{Reply}
 use Rattle.nx_state.specs.State.{State}
 use Rattle.nx_steps.specs.Step.{Step}
-use Rattle.nx_store.specs.Store.{LeavesStore, is_ended, GoesOn, IsAt, IsOf, IsShortened, Shows, IsApplied, NotApplied}
-use Rattle.nx_store.specs.Loading.{IsToldOrNot, reply_of}
+use Rattle.nx_store.specs.Store.{LeavesStore, is_ended, GoesOn, IsAt, IsOf, IsShortened, Shows, IsCarriedThrough, IsLeftUndone, IsApplied, NotApplied}
+use Rattle.nx_script.specs.declared.request.Request.{Request}
+use Rattle.nx_script.specs.declared.request.Answer.{Answer}
 use Rattle.nx_store.specs.declared.store.Store.{Store}
 use Rattle.nx_store.specs.declared.error.EngineError.{EngineError}
 use Rattle.nx_store.specs.declared.error.EngineError.TheVariants as error
 use Rattle.nx_store.proofs.AtLemmas.{at_kept, at_runs, shows_still}
-use Rattle.nx_store.proofs.LogLemmas.{log_stays, log_later}
+use Rattle.nx_store.proofs.LogLemmas.{log_of_command, log_later}
 
 -- the error that a `?` hands on
 pub handed : {T E : Type 0} (r : Result T E) (P : Result T E → Type 0) (e : E) → (y : E) × (r ≡ Err y) × (y ≡ e) → P (Err e) → P r
 handed r P e is here = subst P (sym is.1) (subst (λ x. P (Err x)) (sym is.2) here)
+
+-- what holds in any case holds where the call went well
+pub on_ok_any : {T E : Type 0} {P : Type 0} (r : Result T E) → P → OnOk r P
+on_ok_any (Ok x) p = p
+on_ok_any (Err e) p = tt
 
 module _ {D : Type 0} (d : Ghosts D) where
   pub shows_weaker : {P Q : Image → Type 0} {x0 x1 : D} → ((i : Image) → P i → Q i) → Shows d P x0 x1 → Shows d Q x0 x1
@@ -48,7 +54,7 @@ module _ {D : Type 0} (d : Ghosts D) where
     at_stays runs = at_kept {s0 = s0} {s1 = s1} (same runs) still at
 
     pub looked_reply : (reply : Reply) → is_ended s1 ≡ false → Step state command reply state → IsApplied d (Ok reply) state command s1 x0 x1
-    looked_reply reply runs step = (state, step, at_stays runs, shows_weaker (λ i of. inl of) (shows_still still at), log_stays d command state x0 x1 other)
+    looked_reply reply runs step = (state, step, at_stays runs, shows_weaker (λ i of. inl of) (shows_still still at), log_of_command d command reply state x0 x1 other)
 
     pub looked_error : (e : EngineError) → NotApplied d e s0 s1 x0 x1 → IsApplied d (Err e) state command s1 x0 x1
     looked_error error.Memory refused = (at_stays refused.1, shows_still still at)
@@ -63,31 +69,30 @@ module _ {D : Type 0} (d : Ghosts D) where
     looked_applied (Ok reply) ok refused = looked_reply reply (ok.0).1 (ok.1 state at)
     looked_applied (Err e) ok refused = looked_error e refused
 
-  -- a reply to a command for which nothing was done
-  pub told_applied : (s : Store) (x : D) (state : State) (command : Command) (reply : Reply) (r : Result (Reply × List ℕ) EngineError) → command ≢ Checkpoint → IsToldOrNot reply r → IsAt d s x state → Step state command reply state
-      → IsApplied d (reply_of r) state command s x x
-  told_applied s x state command reply (Ok answer) other is at step = subst (λ (a : Reply × List ℕ). IsApplied d (Ok a.0) state command s x x) (sym is) (state, step, at, none_elapsed, log_stays d command state x x other)
-  told_applied s x state command reply (Err e) other is at step = subst (λ (y : EngineError). IsApplied d (Err y) state command s x x) (sym is) (at, none_elapsed)
+  -- a request behind a step that left the store at its state
+  module _ (s s1 s2 : Store) (x0 x1 x2 : D) (state : State) (request : Request) (first : WritesAlone d x0 x1 (λ i. (state : State) → IsAt d s x0 state → IsOf state i)) (at : IsAt d s x0 state) (told : IsSome (d.contents x1))
+      (mid : IsAt d s1 x1 state) (short : (state : State) (was now : Image) → IsAt d s x0 state → IsSettled d x0 was → IsSettled d x1 now → IsShortened was now) where
+    first_shows : Shows d (IsOf state) x0 x1
+    first_shows = shows_written first told (λ i of. of state at)
 
-  -- a command behind a step that left the store at its state
-  pub later_applied : (s : Store) (x0 x1 x2 : D) (state : State) (command : Command) → WritesAlone d x0 x1 (λ i. (state : State) → IsAt d s x0 state → IsOf state i) → IsAt d s x0 state → IsSome (d.contents x1)
-      → (s1 : Store) → IsAt d s1 x1 state → ((state : State) (was now : Image) → IsAt d s x0 state → IsSettled d x0 was → IsSettled d x1 now → IsShortened was now)
-      → (s2 : Store) (r : Result Reply EngineError) → IsApplied d r state command s2 x1 x2 → IsApplied d r state command s2 x0 x2
-  later_applied s x0 x1 x2 state command first at told s1 mid short s2 (Ok reply) applied =
-      let keeps = (mid.stands).keeps in (
-        applied.0,
-        applied.1,
-        applied.2,
-        shows_then (first.beside_stays).output (λ i of. inl (of state at)) (λ i of. of) (shows_written first told (λ i of. of)) applied.3,
-        log_later d command state applied.0 x0 x1 x2 keeps.image (keeps.step).settled (λ was before. short state was keeps.image at before (keeps.step).settled) applied.4,
-      )
-  later_applied s x0 x1 x2 state command first at told s1 mid short s2 (Err error.Memory) applied = (applied.0, shows_then (first.beside_stays).output (λ i of. of state at) (λ i of. of) (shows_written first told (λ i of. of)) applied.1)
-  later_applied s x0 x1 x2 state command first at told s1 mid short s2 (Err error.Disk) applied = elim applied [
-    | inl shows ↦ inl (shows_then (first.beside_stays).output (λ i of. of state at) (λ i of. of) (shows_written first told (λ i of. of)) shows)
-    | inr begun ↦ inr (begun.0, shows_then (first.beside_stays).output (λ i of. inl (of state at)) (λ i of. of) (shows_written first told (λ i of. of)) begun.1)
-  ]
-  later_applied s x0 x1 x2 state command first at told s1 mid short s2 (Err error.Write) applied = absurd applied
-  later_applied s x0 x1 x2 state command first at told s1 mid short s2 (Err (error.Damaged page)) applied = absurd applied
-  later_applied s x0 x1 x2 state command first at told s1 mid short s2 (Err error.Ended) applied = absurd applied
-  later_applied s x0 x1 x2 state command first at told s1 mid short s2 (Err error.Exists) applied = absurd applied
-  later_applied s x0 x1 x2 state command first at told s1 mid short s2 (Err error.NotAStore) applied = absurd applied
+    pub later_done : (answer : Answer) → IsCarriedThrough d state request answer s2 x1 x2 → IsCarriedThrough d state request answer s2 x0 x2
+    later_done answer done =
+        let keeps = (mid.stands).keeps in (
+          done.0,
+          done.1,
+          done.2,
+          shows_then (first.beside_stays).output (λ i of. inl of) (λ i of. of) first_shows done.3,
+          log_later d x0 x1 x2 keeps.image (keeps.step).settled (λ was before. short state was keeps.image at before (keeps.step).settled) request answer state done.0 done.4,
+        )
+
+    pub later_given_up : (e : EngineError) → IsLeftUndone d e state request s2 x1 x2 → IsLeftUndone d e state request s2 x0 x2
+    later_given_up error.Memory left = (left.0, shows_then (first.beside_stays).output (λ i of. of) (λ i of. of) first_shows left.1)
+    later_given_up error.Disk begun = elim begun [
+      | inl shows ↦ inl (shows_then (first.beside_stays).output (λ i of. of) (λ i of. of) first_shows shows)
+      | inr far ↦ inr (far.0, shows_then (first.beside_stays).output (λ i of. inl of) (λ i of. of) first_shows far.1)
+    ]
+    later_given_up error.Write left = absurd left
+    later_given_up (error.Damaged page) left = absurd left
+    later_given_up error.Ended left = absurd left
+    later_given_up error.Exists left = absurd left
+    later_given_up error.NotAStore left = absurd left

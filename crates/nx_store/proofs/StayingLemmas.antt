@@ -11,38 +11,25 @@ use Rattle.nx_host.proofs.DiskLemmas.{told_same, none_still}
 use Rattle.nx_replay.specs.Log.{replay}
 use Rattle.nx_holdings.specs.Holdings.{Held, HoldsBy}
 use Rattle.nx_holdings.proofs.OneLemmas.{hold_one}
-use Rattle.nx_records.specs.Records.{has_ended, StandsFor, HasNoChanges, FollowsOn}
+use Rattle.nx_records.specs.Records.{has_ended, StandsFor, HasNoChanges}
 use Rattle.nx_records.specs.Changes.{SetsCatalog}
-use Rattle.nx_records.specs.declared.error.StoreError.{StoreError}
-use Rattle.nx_records.specs.declared.error.StoreError.TheVariants as below
 use Rattle.nx_records.proofs.LeaveLemmas.{leaves_stand}
-use Rattle.nx_records.proofs.StandLemmas.{abandon_stands}
-use Rattle.nx_tree.specs.Forest.{OrderedTree}
 use Rattle.nx_layouts.specs.Layout.{RecordPlace, places_of}
 use Rattle.nx_layouts.proofs.PlaceLemmas.{later_among}
 use Rattle.nx_hold.specs.Changes.{place_of}
 use Rattle.nx_hold.specs.Documents.{MovesRecords}
 use Rattle.nx_nav.specs.Given.{AsksAndGives}
 use Rattle.nx_nav.proofs.PartLemmas.{stands_kept}
-use Rattle.nx_edit.specs.declared.error.EditError.{EditError}
-use Rattle.nx_edit.specs.declared.error.EditError.TheVariants as edit
 use Rattle.nx_edit.proofs.OffLemmas.{off_among}
 use Rattle.nx_catalog.specs.Catalog.{Contents, IsCatalog}
-use Rattle.nx_catalog.specs.declared.saving.RuleError.{RuleError}
-use Rattle.nx_catalog.specs.declared.saving.RuleError.TheVariants as rule
-use Rattle.nx_script.specs.declared.command.Command.{Command}
 use Rattle.nx_state.specs.State.{State}
 use Rattle.nx_state.specs.Stands.{StoredDocument, HoldsDocuments, record_places, all_places}
 use Rattle.nx_state.proofs.ChangeLemmas.{rest_stays}
-use Rattle.nx_store.specs.Store.{is_ended, LeavesStore, IsAt}
-use Rattle.nx_store.specs.Staying.{RecordStays, IsOffPath, IsLeftBy, RecordsStay, LeavesOthers, HoldsOn}
-use Rattle.nx_store.specs.Loading.{IsStoreLeft, NotKept}
-use Rattle.nx_store.specs.Changing.{IsPrepared, NotPrepared, RuleNotPrepared}
-use Rattle.nx_store.specs.Editing.{EditNotPrepared}
+use Rattle.nx_store.specs.Store.{is_ended, HoldsOn, LeavesStore, IsAt, IsNow}
+use Rattle.nx_store.specs.Staying.{RecordStays, IsOffPath, RecordsStay, IsLeftByRequest, LeavesOthers}
+use Rattle.nx_script.specs.declared.request.Request.{Request}
 use Rattle.nx_store.specs.declared.store.Store.{Store}
-use Rattle.nx_store.specs.declared.error.EngineError.{EngineError}
-use Rattle.nx_store.specs.declared.error.EngineError.TheVariants as told
-use Rattle.nx_store.proofs.AtLemmas.{at_runs}
+use Rattle.nx_store.proofs.AtLemmas.{at_runs, committed_at}
 use Rattle.nx_store.proofs.FoundLemmas.{same_some}
 use Rattle.nx_store.proofs.LogLemmas.{some_value}
 
@@ -51,7 +38,7 @@ use Rattle.nx_store.proofs.LogLemmas.{some_value}
 none_there : {A : Type 0} (x : A) → Contains [] x → ⊥
 none_there x h = let low : h.0 < 0 = h.1 in omega (arith, low)
 
-alone_there : {A : Type 0} (x y : A) → Contains (x ∷ []) y → x ≡ y
+pub alone_there : {A : Type 0} (x y : A) → Contains (x ∷ []) y → x ≡ y
 alone_there x y h = elim (Contains-push_cases [] x y h) [ inl none ↦ absurd (none_there y none) | inr same ↦ same ]
 
 -- a document's records are among those of all
@@ -173,6 +160,12 @@ module _ {D : Type 0} (d : Ghosts D) where
         catalog = then.catalog;
       }
 
+  -- ... also behind another call
+  pub holds_later : (s0 s1 s2 : Store) (x0 x1 x2 : D) → HoldsOn d s0 s1 x0 x1 → (IsSome (d.contents x2) → IsSome (d.contents x1)) → HoldsOn d s1 s2 x1 x2 → HoldsOn d s0 s2 x0 x2
+  holds_later s0 s1 s2 x0 x1 x2 first before second state at told =
+      let told1 = before told in
+      let then = second state (held_on s0 s1 x0 x1 first state at told1) told in (then.0, then.1, then.2 ∙ (first state at told1).2)
+
   -- the store was looked at, and output was given
   pub gave_holds : (s0 s1 : Store) (x0 x1 : D) → AsksAndGives d x0 x1 → LeavesStore s0 s1 → HoldsOn d s0 s1 x0 x1
   gave_holds s0 s1 x0 x1 gives left state at told = (
@@ -181,112 +174,52 @@ module _ {D : Type 0} (d : Ghosts D) where
     left.catalog,
   )
 
-  module _ (command : Command) where
+  module _ (request : Request) where
     -- it is enough to say it of one state that the store is at then
     one_leaves : (s0 s1 : Store) (x0 x1 : D)
-        → ((state : State) (at : IsAt d s0 x0 state) → is_ended s1 ≡ false → IsSome (d.contents x1) → (next : State) × (then : IsAt d s1 x1 next) × RecordsStay (IsLeftBy command) (at.state_is).stored at.held then.held)
-        → LeavesOthers d command s0 s1 x0 x1
+        → ((state : State) (at : IsAt d s0 x0 state) → is_ended s1 ≡ false → IsSome (d.contents x1) → (next : State) × (then : IsAt d s1 x1 next) × RecordsStay (IsLeftByRequest request) (at.state_is).stored at.held then.held)
+        → LeavesOthers d request s0 s1 x0 x1
     one_leaves s0 s1 x0 x1 makes state next at then =
         let made = makes state at (at_runs then) (told_at s1 x1 next then) in
-        subst (λ (now : Held). RecordsStay (IsLeftBy command) (at.state_is).stored at.held now) (one_held s1 x1 made.0 next made.1 then) made.2
+        subst (λ (now : Held). RecordsStay (IsLeftByRequest request) (at.state_is).stored at.held now) (one_held s1 x1 made.0 next made.1 then) made.2
 
-    pub held_leaves : (s0 s1 : Store) (x0 x1 : D) → (is_ended s1 ≡ false → HoldsOn d s0 s1 x0 x1) → LeavesOthers d command s0 s1 x0 x1
-    held_leaves s0 s1 x0 x1 holds = one_leaves s0 s1 x0 x1 (λ state at runs told. (state, held_on s0 s1 x0 x1 (holds runs) state at told, same_rest (IsLeftBy command) at.held (at.state_is).stored))
+    pub held_leaves : (s0 s1 : Store) (x0 x1 : D) → (is_ended s1 ≡ false → HoldsOn d s0 s1 x0 x1) → LeavesOthers d request s0 s1 x0 x1
+    held_leaves s0 s1 x0 x1 holds = one_leaves s0 s1 x0 x1 (λ state at runs told. (state, held_on s0 s1 x0 x1 (holds runs) state at told, same_rest (IsLeftByRequest request) at.held (at.state_is).stored))
 
     -- nothing was done
-    pub unasked_leaves : (s : Store) (x : D) → LeavesOthers d command s s x x
+    pub unasked_leaves : (s : Store) (x : D) → LeavesOthers d request s s x x
     unasked_leaves s x = held_leaves s s x x (λ runs state at told. (at.stands, at.none_waits, refl))
 
     -- the store was looked at
-    pub looked_leaves : (s0 s1 : Store) (x0 x1 : D) → IsStill d x0 x1 → (is_ended s1 ≡ false → LeavesStore s0 s1) → LeavesOthers d command s0 s1 x0 x1
+    pub looked_leaves : (s0 s1 : Store) (x0 x1 : D) → IsStill d x0 x1 → (is_ended s1 ≡ false → LeavesStore s0 s1) → LeavesOthers d request s0 s1 x0 x1
     looked_leaves s0 s1 x0 x1 still same =
         held_leaves s0 s1 x0 x1 (λ runs state at told. let left = same runs in (leaves_stand {r0 = s0.records} {r1 = s1.records} left.records still at.stands, (left.records).changes_stay ∙ at.none_waits, left.catalog))
 
     -- ... and output was given
-    pub gave_leaves : (s0 s1 : Store) (x0 x1 : D) → AsksAndGives d x0 x1 → (is_ended s1 ≡ false → LeavesStore s0 s1) → LeavesOthers d command s0 s1 x0 x1
+    pub gave_leaves : (s0 s1 : Store) (x0 x1 : D) → AsksAndGives d x0 x1 → (is_ended s1 ≡ false → LeavesStore s0 s1) → LeavesOthers d request s0 s1 x0 x1
     gave_leaves s0 s1 x0 x1 gives same = held_leaves s0 s1 x0 x1 (λ runs. gave_holds s0 s1 x0 x1 gives (same runs))
 
-    pub ended_leaves : (s0 s1 : Store) (x0 x1 : D) → is_ended s1 ≡ true → LeavesOthers d command s0 s1 x0 x1
+    pub ended_leaves : (s0 s1 : Store) (x0 x1 : D) → is_ended s1 ≡ true → LeavesOthers d request s0 s1 x0 x1
     ended_leaves s0 s1 x0 x1 ended state next at then = absurd (false≢true (sym (at_runs then) ∙ ended))
 
     -- behind a step that left what is held
-    pub later_leaves : (s0 s1 s2 : Store) (x0 x1 x2 : D) → HoldsOn d s0 s1 x0 x1 → (IsSome (d.contents x2) → IsSome (d.contents x1)) → LeavesOthers d command s1 s2 x1 x2 → LeavesOthers d command s0 s2 x0 x2
+    pub later_leaves : (s0 s1 s2 : Store) (x0 x1 x2 : D) → HoldsOn d s0 s1 x0 x1 → (IsSome (d.contents x2) → IsSome (d.contents x1)) → LeavesOthers d request s1 s2 x1 x2 → LeavesOthers d request s0 s2 x0 x2
     later_leaves s0 s1 s2 x0 x1 x2 holds before leaves state next at then = leaves state next (held_on s0 s1 x0 x1 holds state at (before (told_at s2 x2 next then))) then
 
     -- behind the commit of what was prepared
     pub committed_leaves : (s0 s1 s2 : Store) (x0 x1 x2 : D)
-        → ((state : State) (at : IsAt d s0 x0 state) → (next : State) × (p : IsPrepared d s1 x1 state next) × RecordsStay (IsLeftBy command) (at.state_is).stored at.held p.now)
+        → ((state : State) (at : IsAt d s0 x0 state) → (next : State) × (now : IsNow d s1 x1 at.held next) × RecordsStay (IsLeftByRequest request) (at.state_is).stored at.held now.held)
         → ((saved now : Held) (image : Image) → StandsFor d s1.records x1 saved now → d.contents x2 ≡ Some image → StandsFor d s2.records x2 now now) → HasNoChanges s2.records → s2.catalog ≡ s1.catalog
-        → LeavesOthers d command s0 s2 x0 x2
+        → LeavesOthers d request s0 s2 x0 x2
     committed_leaves s0 s1 s2 x0 x1 x2 makes stands none catalog =
         one_leaves s0 s2 x0 x2 (λ state at runs told.
         let made = makes state at in
-        let p = made.1 in
         let image = some_value (d.contents x2) told in (
           made.0,
-          record {
-            held = p.now;
-            stands = stands p.saved p.now image.0 p.stands image.1;
-            none_waits = none;
-            state_is = p.will;
-            catalog = subst (λ (c : Contents). IsCatalog (p.now).catalog.bytes c) (sym catalog) p.catalog;
-          },
+          committed_at {d = d} s1 s2 x1 x2 at.held made.0 made.1 image.0 image.1 stands none catalog,
           made.2,
         ))
 
     -- whatever is given behind it
-    pub given_leaves : (s0 s1 : Store) (x0 x1 x2 : D) (P : Option (List ℕ) → Type 0) → LeavesAreas d x1 x2 P → LeavesOthers d command s0 s1 x0 x1 → LeavesOthers d command s0 s1 x0 x2
+    pub given_leaves : (s0 s1 : Store) (x0 x1 x2 : D) (P : Option (List ℕ) → Type 0) → LeavesAreas d x1 x2 P → LeavesOthers d request s0 s1 x0 x1 → LeavesOthers d request s0 s1 x0 x2
     given_leaves s0 s1 x0 x1 x2 P gives leaves state next at then = leaves state next at (at_before s1 x1 x2 P next gives then)
-
-  -- ---- where it wasn't prepared, and was dropped
-
-  module _ (s0 s1 s2 : Store) (x0 x1 : D) (follows : FollowsOn s1.records s2.records) (none : HasNoChanges s2.records)
-      (heads : ((s2.records).saved ≡ (s1.records).saved) × ((s2.records).head ≡ (s1.records).saved) × ((s2.records).catalog_pages ≡ [])) (ended : has_ended s2.records ≡ has_ended s1.records) (catalog : s2.catalog ≡ s1.catalog) where
-    left_holds : IsStoreLeft d s0 s1 x0 x1 → HoldsOn d s0 s2 x0 x1
-    left_holds left state at told = (abandon_stands {r0 = s1.records} {r1 = s2.records} follows none (heads.0, heads.1) heads.2 ended (left.saved at.held (at.stands).keeps), none, catalog ∙ left.catalog)
-
-    ends_here : is_ended s1 ≡ true → is_ended s2 ≡ false → ⊥
-    ends_here was runs = false≢true (sym runs ∙ ended ∙ was)
-
-    pub kept_holds : (tree : OrderedTree) (e : StoreError) → NotKept d tree e s0 s1 x0 x1 → is_ended s2 ≡ false → HoldsOn d s0 s2 x0 x1
-    kept_holds tree below.Memory why runs = left_holds why
-    kept_holds tree below.Full why runs = left_holds why.0
-    kept_holds tree below.Disk why runs = absurd (ends_here (why.1).1 runs)
-    kept_holds tree (below.Damaged page) why runs = absurd (ends_here (why.0).1 runs)
-    kept_holds tree below.Ended why runs = absurd why
-    kept_holds tree below.Exists why runs = absurd why
-    kept_holds tree below.NotAStore why runs = absurd why
-
-    pub drop_holds : (e : EngineError) → NotPrepared d e s0 s1 x0 x1 → is_ended s2 ≡ false → HoldsOn d s0 s2 x0 x1
-    drop_holds told.Memory why runs = left_holds why
-    drop_holds told.Disk why runs = absurd (ends_here (why.1).1 runs)
-    drop_holds (told.Damaged page) why runs = absurd (ends_here (why.0).1 runs)
-    drop_holds told.Write why runs = absurd why
-    drop_holds told.Ended why runs = absurd why
-    drop_holds told.Exists why runs = absurd why
-    drop_holds told.NotAStore why runs = absurd why
-
-    pub rule_holds : (command : Command) (e : RuleError) → RuleNotPrepared d command e s0 s1 x0 x1 → is_ended s2 ≡ false → HoldsOn d s0 s2 x0 x1
-    rule_holds command rule.TooManyRules why runs = left_holds why.0
-    rule_holds command (rule.Store below.Full) why runs = left_holds why.0
-    rule_holds command (rule.Store below.Memory) why runs = left_holds why
-    rule_holds command (rule.Store below.Disk) why runs = drop_holds told.Disk why runs
-    rule_holds command (rule.Store (below.Damaged page)) why runs = drop_holds (told.Damaged page) why runs
-    rule_holds command (rule.Store below.Ended) why runs = absurd why
-    rule_holds command (rule.Store below.Exists) why runs = absurd why
-    rule_holds command (rule.Store below.NotAStore) why runs = absurd why
-
-    pub edit_holds : (command : Command) (path : List ℕ) (e : EditError) → EditNotPrepared d command path e s0 s1 x0 x1 → is_ended s2 ≡ false → HoldsOn d s0 s2 x0 x1
-    edit_holds command path edit.Memory why runs = left_holds why
-    edit_holds command path edit.Disk why runs = absurd (ends_here (why.1).1 runs)
-    edit_holds command path (edit.Damaged page) why runs = absurd (ends_here (why.0).1 runs)
-    edit_holds command path edit.Ended why runs = absurd why
-    edit_holds command path edit.NoNode why runs = left_holds why.0
-    edit_holds command path edit.BadPlace why runs = left_holds why.0
-    edit_holds command path edit.Twice why runs = left_holds why.0
-    edit_holds command path edit.NoContent why runs = left_holds why.0
-    edit_holds command path edit.TooLong why runs = left_holds why.0
-    edit_holds command path edit.TooDeep why runs = left_holds why.0
-    edit_holds command path edit.TooMany why runs = left_holds why.0
-    edit_holds command path (edit.TooHeavy weight) why runs = left_holds why.0
-    edit_holds command path edit.Full why runs = left_holds why.0

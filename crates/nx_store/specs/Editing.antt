@@ -26,14 +26,12 @@ use Rattle.nx_edit.specs.Refusals.{deletion_fault, is_of_path, edit_needs, NotEd
 use Rattle.nx_edit.specs.Inserting.{insertion_fault, is_of_insertion}
 use Rattle.nx_edit.specs.Retexting.{content_fault, is_of_content}
 use Rattle.nx_script.specs.declared.reply.Reply.{Reply}
-use Rattle.nx_script.specs.declared.reply.Reply.TheVariants as reply
 use Rattle.nx_script.specs.declared.reply.ReplyError.{ReplyError}
 use Rattle.nx_script.specs.declared.reply.ReplyError.TheVariants as refused
 use Rattle.nx_edit.specs.declared.error.EditError.{EditError}
 use Rattle.nx_edit.specs.declared.error.EditError.TheVariants as edit
-use Rattle.nx_store.specs.Store.{IsNowhere, EndsNow}
-use Rattle.nx_store.specs.Loading.{IsStoreLeft, IsToldOrNot}
-use Rattle.nx_store.specs.Changing.{StepsRefused}
+use Rattle.nx_store.specs.Store.{HoldsNoState, EndsNow}
+use Rattle.nx_store.specs.Changing.{IsStoreLeft, StepsRefused}
 use Rattle.nx_store.specs.declared.editing.Edit.{Edit}
 use Rattle.nx_store.specs.declared.editing.Edit.TheVariants as made
 use Rattle.nx_store.specs.declared.edits.EditBody.{EditBody}
@@ -132,15 +130,15 @@ edit_reply path _ = refused.Syntax
 -- Why an edit at a path wasn't prepared, and what that leaves.
 abbrev pub EditNotPrepared : {D : Type 0} → Ghosts D → Command → List ℕ → EditError → Store → Store → D → D → Type 0
 EditNotPrepared d command path edit.Disk old new before after = Rose (d.faults before) (d.faults after) × EndsNow old new
-EditNotPrepared d command path (edit.Damaged page) old new before after = EndsNow old new × IsNowhere d old before
+EditNotPrepared d command path (edit.Damaged page) old new before after = EndsNow old new × HoldsNoState d old before
 EditNotPrepared d command path edit.Ended old new before after = ⊥
 EditNotPrepared d command path edit.Memory old new before after = IsStoreLeft d old new before after
 EditNotPrepared d command path e old new before after = IsStoreLeft d old new before after × StepsRefused d command (edit_reply path e) old before
 
--- what an edit at a path is answered that wasn't prepared
-abbrev pub IsEditRefusal : List ℕ → EditError → Result (Reply × List ℕ) EngineError → Type 0
-IsEditRefusal path edit.Disk result = result ≡ Err told.Disk
-IsEditRefusal path (edit.Damaged page) result = result ≡ Err (told.Damaged page)
-IsEditRefusal path edit.Ended result = result ≡ Err told.Ended
-IsEditRefusal path edit.Memory result = result ≡ Err told.Memory
-IsEditRefusal path e result = IsToldOrNot (reply.Refused (edit_reply path e)) result
+-- what is told of an edit at a path that wasn't prepared
+abbrev pub IsEditCause : List ℕ → EditError → Result (Result Reply ReplyError) EngineError → Type 0
+IsEditCause path edit.Disk result = result ≡ Err told.Disk
+IsEditCause path (edit.Damaged page) result = result ≡ Err (told.Damaged page)
+IsEditCause path edit.Ended result = result ≡ Err told.Ended
+IsEditCause path edit.Memory result = result ≡ Err told.Memory
+IsEditCause path e result = result ≡ Ok (Err (edit_reply path e))

@@ -3,7 +3,7 @@ pub mod Store
 pub mod Reads
 pub mod Laws
 pub mod Staying
-pub mod Loading
 pub mod Changing
+pub mod Loading
 pub mod Editing
 pub mod Naming

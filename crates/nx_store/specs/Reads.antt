@@ -14,7 +14,7 @@ use Rattle.nx_catalog.specs.Catalog.{Contents, IsCatalog}
 use Rattle.nx_nav.specs.Along.{ReadsShown}
 use Rattle.nx_nav.specs.Early.{LeavesOutput}
 use Rattle.nx_script.specs.declared.command.Command.{Command}
-use Rattle.nx_script.specs.declared.command.Command.TheVariants.{Get, Names, Rules, Bad}
+use Rattle.nx_script.specs.declared.command.Command.TheVariants.{Get, Names, Rules, Begin, Commit, Bad}
 use Rattle.nx_state.specs.State.{State}
 use Rattle.nx_store.specs.Store.{IsAt}
 use Rattle.nx_store.specs.declared.store.Store.{Store}
@@ -34,6 +34,8 @@ abbrev pub is_lookup : Command → Bool
 is_lookup (Get name path) = true
 is_lookup Names = true
 is_lookup Rules = true
+is_lookup (Begin bare) = true
+is_lookup Commit = true
 is_lookup Bad = true
 is_lookup _ = false
 
@@ -41,6 +43,8 @@ is_lookup _ = false
 abbrev pub needs_no_page : Command → Bool
 needs_no_page Names = true
 needs_no_page Rules = true
+needs_no_page (Begin bare) = true
+needs_no_page Commit = true
 needs_no_page Bad = true
 needs_no_page _ = false
 
@@ -59,6 +63,8 @@ abbrev pub ReadsFor : Held → State → Command → ℕ → Type 0
 ReadsFor held state (Get name path) pages = GetReads held name path (get state.documents name) pages
 ReadsFor held state Names pages = pages ≡ 0
 ReadsFor held state Rules pages = pages ≡ 0
+ReadsFor held state (Begin bare) pages = pages ≡ 0
+ReadsFor held state Commit pages = pages ≡ 0
 ReadsFor held state Bad pages = pages ≡ 0
 ReadsFor held state _ pages = Unit {0}
 

@@ -9,8 +9,9 @@ ghost use Rattle.nx_store.specs.Told.{line_of};
 ghost use Rattle.nx_state.specs.State.{State};
 ghost use Rattle.nx_steps.specs.Step.{Step};
 ghost use Rattle.nx_store.specs.Reads.{ReadsWithin};
-ghost use Rattle.nx_store.specs.Staying.{LeavesOthers, HoldsOn};
-ghost use Rattle.nx_store.specs.Store.{is_ended, LeavesStore, EndsNow, GoesOn, IsAt, IsOf, IsApplied, NotApplied};
+ghost use Rattle.nx_script.specs.declared.request.Request.TheVariants.{Single};
+ghost use Rattle.nx_store.specs.Staying.{LeavesOthers};
+ghost use Rattle.nx_store.specs.Store.{is_ended, HoldsOn, RefusedHolds, LeavesStore, EndsNow, GoesOn, IsAt, IsOf, IsApplied, NotApplied};
 
 use crate::error::{is_no_node, told_by};
 use crate::{EngineError, Store};
@@ -141,8 +142,9 @@ impl Store {
         ensures ok { OnOk result (GoesOn self.old self.new) }
         ensures refused { IfErr result (λ e. NotApplied D.Disk e self.old self.new disk.old disk.new) }
         ensures areas { WritesAlone D.Disk disk.old disk.new (λ _. Unit {0}) }
-        ensures leaves { LeavesOthers D.Disk command.Checkpoint self.old self.new disk.old disk.new }
+        ensures leaves { LeavesOthers D.Disk (Single command.Checkpoint) self.old self.new disk.old disk.new }
         ensures holds { OnOk result (HoldsOn D.Disk self.old self.new disk.old disk.new) }
+        ensures kept { RefusedHolds D.Disk result self.old self.new disk.old disk.new }
     {
         if self.is_ended() {
             return Err(EngineError::Ended);

@@ -3,8 +3,7 @@ ghost use Rattle.std.specs.Prelude.{◌≡◌, false, IfOk, IfErr, OnOk};
 ghost use Rattle.nx_host.specs.Still.{IsStill};
 ghost use Rattle.nx_state.specs.State.{State};
 ghost use Rattle.nx_store.specs.Naming.{MapsStored, AreNamesOf, FindsIn, ReadsNames, ReadsFinding, NotSearched, told_find};
-ghost use Rattle.nx_store.specs.Staying.{HoldsOn};
-ghost use Rattle.nx_store.specs.Store.{is_ended, LeavesStore, GoesOn, IsAt, NotApplied};
+ghost use Rattle.nx_store.specs.Store.{is_ended, HoldsOn, LeavesStore, GoesOn, IsAt, NotApplied};
 
 use crate::{EngineError, Store};
 use nx_find::{FindError, Names, Paths, Steps};

@@ -2,21 +2,22 @@
 ghost use Rattle.std.specs.Prelude.{◌≡◌, ◌⊎◌, ℕ, List, true, false, Some, None, IsSome, IfOk, IfErr, OnOk};
 ghost use Rattle.nx_host.specs.Disk.{Image};
 ghost use Rattle.nx_host.specs.Still.{IsStill, IsSettled, WritesAlone};
-ghost use Rattle.nx_records.specs.Words.{HasSame, AreSettings};
-ghost use Rattle.nx_records.specs.Records.{HasHeader};
+ghost use Rattle.nx_records.specs.Words.{HasSame, AreSettings, IsRenewed};
+ghost use Rattle.nx_records.specs.Records.{HasHeader, IsInStepWith};
 ghost use Rattle.nx_records.specs.Refusals.{IsNewStore, NotCreated};
 ghost use Rattle.nx_script.specs.Commands.{CanCome};
 ghost use Rattle.nx_state.specs.State.{State, new_state};
 ghost use Rattle.nx_state.specs.Stands.{Recovers};
 ghost use Rattle.nx_steps.specs.Step.{may_change};
+ghost use Rattle.nx_script.specs.Requests.{CanComeRequest};
+ghost use Rattle.nx_steps.specs.Requests.{may_change_request};
 
 use crate::EngineError;
-use crate::edits::EditBody;
 use crate::error::{told_by, told_error};
 use nx_catalog::{Catalog, load_catalog};
 use nx_host::{Disk, Host};
 use nx_records::{Records, Settings};
-use nx_script::{Command, Reply, ReplyError, push_reply, write_reply};
+use nx_script::{Command, Reply, ReplyError, Request, push_reply, write_reply};
 use nx_steps::may_change;
 use nx_tree::Bytes;
 use std::alloc::Global;
@@ -36,9 +37,9 @@ impl Store {
     ghost use Rattle.nx_script.specs.declared.reply.Reply.{Reply};
     ghost use Rattle.nx_nav.specs.Given.{AsksAndGives};
     ghost use Rattle.nx_store.specs.Reads.{ReadsOpening, needs_no_page, ReadsWithin, ReadsToFirst};
-    ghost use Rattle.nx_store.specs.Staying.{LeavesOthers, HoldsOn};
-    ghost use Rattle.nx_store.specs.Loading.{reply_of, HasReplyText, IsAppliedWithText};
-    ghost use Rattle.nx_store.specs.Store.{is_ended, LeavesStore, IsAt, IsApplied, IsAnswered, IsExported, GoesOn, TakesNone, NotApplied, NotAnswered, NotMade, NotOpened};
+    ghost use Rattle.nx_store.specs.Staying.{LeavesOthers};
+    ghost use Rattle.nx_store.specs.Changing.{IsCarriedWithText};
+    ghost use Rattle.nx_store.specs.Store.{is_ended, HoldsOn, RefusedHolds, LeavesStore, IsAt, IsApplied, IsAnswered, IsExported, GoesOn, TakesNone, NotApplied, NotAnswered, NotMade, NotOpened};
 
     /// A store on a disk that has no pages, committed: with these settings, and without documents and
     /// rules. The settings are in range: K from 1 to 256, a target of at most 100, a tolerance of at most
@@ -68,22 +69,47 @@ impl Store {
         })
     }
 
-    /// The store of a disk. Nothing is written. It reads the log by its heads and page numbers, page 0 and the chain pages
-    /// of the catalog, and no page of a document: where the pages are sound, or there is no store, at most three times for each
-    /// 8,196 bytes that the log's area has, and as often for a rest, twice for page 0, and once for each chain page.
+    /// As `open_to_read`, for a session that may commit: it renews what `Wal::open` renews, before anything is
+    /// built on it.
     ///
-    /// Errors: `NotAStore` exactly where page 0 is missing or doesn't begin with the eight bytes
-    /// `NATIXST1`; `Damaged`, only where the disk stands for no state; `Disk`, only where `faults` rose;
-    /// `Memory`.
+    /// Errors: as `open_to_read`.
     pub fn open<D: Disk>(alloc: Global, disk: &mut D) -> Result<Store, EngineError>
         ensures still { IsStill D.Disk disk.old disk.new }
         ensures ok { IfOk result (λ store. (was : Image) (state : State) → IsSettled D.Disk disk.old was → Recovers was (Some state) → IsAt D.Disk store disk.new state) }
         ensures fresh { IfOk result (λ store. is_ended store ≡ false) }
         ensures marked { OnOk result ((was : Image) → IsSettled D.Disk disk.old was → HasHeader was) }
         ensures reads { (was : Image) → IsSettled D.Disk disk.old was → ReadsOpening was (D.reads disk.old) (D.reads disk.new) }
+        ensures renewed { OnOk result (IsRenewed D.Disk disk.old disk.new) }
         ensures refused { IfErr result (λ e. NotOpened D.Disk e disk.old disk.new) }
     {
-        let mut records = match Records::open(alloc, disk) {
+        let mut store = match Store::open_to_read(alloc, disk) {
+            Ok(store) => store,
+            Err(error) => return Err(error),
+        };
+        let Ok(_) = store.records.renew(disk) else {
+            return Err(EngineError::Disk);
+        };
+        Ok(store)
+    }
+
+    /// The store of a disk, for a session that only reads. Nothing is written. It reads the log by its heads and page numbers, page 0 and the chain pages
+    /// of the catalog, and no page of a document: where the pages are sound, or there is no store, at most three times for each
+    /// 8,196 bytes that the log's area has, and as often for a rest, twice for page 0, and once for each chain page.
+    ///
+    /// Errors: `NotAStore` exactly where page 0 is missing or doesn't begin with the eight bytes
+    /// `NATIXST1`; `Damaged`, only where the disk stands for no state, so also where the pages area has no
+    /// page and the log lacks one of those that the header says; `Disk`, only where `faults` rose;
+    /// `Memory`.
+    pub fn open_to_read<D: Disk>(alloc: Global, disk: &mut D) -> Result<Store, EngineError>
+        ensures still { IsStill D.Disk disk.old disk.new }
+        ensures ok { IfOk result (λ store. (was : Image) (state : State) → IsSettled D.Disk disk.old was → Recovers was (Some state) → IsAt D.Disk store disk.new state) }
+        ensures step { IfOk result (λ store. (was : Image) → IsSettled D.Disk disk.old was → IsInStepWith D.Disk store.records disk.new was) }
+        ensures fresh { IfOk result (λ store. is_ended store ≡ false) }
+        ensures marked { OnOk result ((was : Image) → IsSettled D.Disk disk.old was → HasHeader was) }
+        ensures reads { (was : Image) → IsSettled D.Disk disk.old was → ReadsOpening was (D.reads disk.old) (D.reads disk.new) }
+        ensures refused { IfErr result (λ e. NotOpened D.Disk e disk.old disk.new) }
+    {
+        let mut records = match Records::open_to_read(alloc, disk) {
             Ok(records) => records,
             Err(error) => return Err(told_error(error)),
         };
@@ -109,7 +135,8 @@ impl Store {
     /// changes the store does so by one commit: at every moment each image is that of the state before it
     /// or of the state after it, and then the log of each has one group more. Where the log is longer than
     /// 67,108,864 bytes, a checkpoint comes first, so that this group is alone. Once `checkpoint` was answered the
-    /// log of no image has a group. All memory is taken before the commit.
+    /// log of no image has a group. All memory is taken before the commit. A command that is refused, or for which
+    /// there is no memory, leaves all that is held.
     ///
     /// An edit leaves each record of its document that holds neither a node on the way along the path nor one of a
     /// tree that it deletes, and all records of the other documents, each with its place, bytes and list. A `drop`
@@ -134,8 +161,9 @@ impl Store {
         ensures ok { OnOk result (GoesOn self.old self.new) }
         ensures refused { IfErr result (λ e. NotApplied D.Disk e self.old self.new disk.old disk.new) }
         ensures areas { WritesAlone D.Disk disk.old disk.new (λ _. Unit {0}) }
-        ensures leaves { LeavesOthers D.Disk command self.old self.new disk.old disk.new }
+        ensures leaves { LeavesOthers D.Disk (Request.Single command) self.old self.new disk.old disk.new }
         ensures holds { may_change command ≡ false → OnOk result (HoldsOn D.Disk self.old self.new disk.old disk.new) }
+        ensures kept { RefusedHolds D.Disk result self.old self.new disk.old disk.new }
         ensures reads { ReadsWithin D.Disk command self.old disk.old disk.new }
         ensures unread { needs_no_page command ≡ true → D.reads disk.new ≡ D.reads disk.old }
     {
@@ -149,43 +177,6 @@ impl Store {
         self.look(disk, command)
     }
 
-    // Carries out a command that may change the store. Beside the reply is its text, whose memory is taken before the commit.
-    fn change<R: Threads + Sync, D: Disk>(
-        &mut self,
-        rt: &R,
-        disk: &mut D,
-        command: Command,
-    ) -> Result<(Reply, Bytes), EngineError>
-        requires runs { is_ended self.old ≡ false }
-        requires come { CanCome command }
-        requires may { may_change command ≡ true }
-        ensures applies { (state : State) → IsAt D.Disk self.old disk.old state → IsSome (D.contents disk.new) → IsApplied D.Disk (reply_of result) state command self.new disk.old disk.new }
-        ensures ok { IfOk result (λ answer. GoesOn self.old self.new × HasReplyText answer) }
-        ensures refused { IfErr result (λ e. NotApplied D.Disk e self.old self.new disk.old disk.new) }
-        ensures areas { WritesAlone D.Disk disk.old disk.new (λ _. Unit {0}) }
-        ensures leaves { LeavesOthers D.Disk command self.old self.new disk.old disk.new }
-    {
-        match command {
-            Command::Load { name, body } => self.load(rt, disk, name, body),
-            Command::SetRule { rule } => self.set_rule(disk, &rule),
-            Command::Discard { name } => self.discard(disk, &name),
-            Command::Delete { name, path } => self.edit(disk, &name, path, EditBody::Delete),
-            Command::Retext { name, path, text } => {
-                self.edit(disk, &name, path, EditBody::Retext(text))
-            }
-            Command::Insert { name, path, line } => {
-                self.edit(disk, &name, path, EditBody::Insert(line))
-            }
-            Command::Names
-            | Command::Export { .. }
-            | Command::Get { .. }
-            | Command::Layout { .. }
-            | Command::Rules
-            | Command::Checkpoint
-            | Command::Bad => unreachable!(),
-        }
-    }
-
     // Carries out a command that leaves what is stored.
     fn look<D: Disk>(&mut self, disk: &mut D, command: Command) -> Result<Reply, EngineError>
         requires runs { is_ended self.old ≡ false }
@@ -194,8 +185,9 @@ impl Store {
         ensures ok { OnOk result (GoesOn self.old self.new) }
         ensures refused { IfErr result (λ e. NotApplied D.Disk e self.old self.new disk.old disk.new) }
         ensures areas { WritesAlone D.Disk disk.old disk.new (λ _. Unit {0}) }
-        ensures leaves { LeavesOthers D.Disk command self.old self.new disk.old disk.new }
+        ensures leaves { LeavesOthers D.Disk (Request.Single command) self.old self.new disk.old disk.new }
         ensures holds { OnOk result (HoldsOn D.Disk self.old self.new disk.old disk.new) }
+        ensures kept { RefusedHolds D.Disk result self.old self.new disk.old disk.new }
         ensures reads { ReadsWithin D.Disk command self.old disk.old disk.new }
         ensures unread { needs_no_page command ≡ true → D.reads disk.new ≡ D.reads disk.old }
     {
@@ -206,9 +198,12 @@ impl Store {
             Command::Layout { name } => self.layout(disk, &name),
             Command::Rules => self.rules(),
             Command::Checkpoint => self.checkpoint(disk),
+            Command::Begin { .. } => Ok(Reply::Refused(ReplyError::Syntax)),
+            Command::Commit => Ok(Reply::Refused(ReplyError::Syntax)),
             Command::Bad => Ok(Reply::Refused(ReplyError::Syntax)),
             Command::Load { .. }
             | Command::Discard { .. }
+            | Command::Rename { .. }
             | Command::Insert { .. }
             | Command::Delete { .. }
             | Command::Retext { .. }
@@ -216,26 +211,58 @@ impl Store {
         }
     }
 
-    /// Carries a command out as `apply` does, and gives its reply's text to the output, behind the commit and
-    /// whole. All memory of the text is taken before the commit too. But an `export` is given record by record, as by `export_into`: where the
+    /// Carries a request out, and gives its answer's text to the output, behind the commit and whole. All memory of the
+    /// text is taken before the commit too. But an `export` is given record by record, as by `export_into`: where the
     /// output is as it was, whatever is answered, it read no more than a `get` of the document's first child may.
     ///
-    /// The command is one that a script can give.
+    /// A command by itself is carried out as by `apply`. A transaction carries its commands out one after the other, each in the
+    /// state that those before it left, and commits once, behind the last: at every moment each image is that of the state before
+    /// the first or of the state behind the last, and then the log of each has one group more. Where one is refused, or there is no
+    /// memory, nothing is committed, and the store holds what it held. A command that may not change the store is refused. All
+    /// records stay of documents that none of the commands names.
+    ///
+    /// The request is one that a script can give.
     ///
     /// Errors: those of `apply`, and nothing is given then, but that a first part of an export may be; `Write`, only where `out_faults` rose, and then the
-    /// command was carried out, and a first part of the text may be out.
+    /// request was carried out, and a first part of the text may be out.
     pub fn answer<R: Threads + Sync, H: Host>(
+        &mut self,
+        rt: &R,
+        host: &mut H,
+        request: Request,
+    ) -> Result<(), EngineError>
+        requires { CanComeRequest request }
+        ensures answers { (state : State) → IsAt ⟦<H as Disk>⟧ self.old host.old state → IsSome (H.contents host.new) → IsAnswered ⟦<H as Disk>⟧ result state request self.old self.new host.old host.new }
+        ensures ok { OnOk result (GoesOn self.old self.new) }
+        ensures refused { IfErr result (λ e. NotAnswered ⟦<H as Disk>⟧ e self.old self.new host.old host.new) }
+        ensures beside { TakesNone ⟦<H as Disk>⟧ host.old host.new }
+        ensures leaves { LeavesOthers ⟦<H as Disk>⟧ request self.old self.new host.old host.new }
+        ensures holds { may_change_request request ≡ false → OnOk result (HoldsOn ⟦<H as Disk>⟧ self.old self.new host.old host.new) }
+        ensures reads { (command : Command) → request ≡ Request.Single command → ReadsWithin ⟦<H as Disk>⟧ command self.old host.old host.new }
+        ensures unread { (command : Command) → request ≡ Request.Single command → needs_no_page command ≡ true → H.reads host.new ≡ H.reads host.old }
+        ensures early { (name : List ℕ) → request ≡ Request.Single (Command.Export name) → ReadsToFirst ⟦<H as Disk>⟧ name self.old host.old host.new }
+    {
+        match request {
+            Request::Single(command) => self.answer_one(rt, host, command),
+            Request::Transaction(commands) => {
+                self.answer_whole(rt, host, Request::Transaction(commands))
+            }
+        }
+    }
+
+    // ... of a command by itself.
+    fn answer_one<R: Threads + Sync, H: Host>(
         &mut self,
         rt: &R,
         host: &mut H,
         command: Command,
     ) -> Result<(), EngineError>
         requires { CanCome command }
-        ensures answers { (state : State) → IsAt ⟦<H as Disk>⟧ self.old host.old state → IsSome (H.contents host.new) → IsAnswered ⟦<H as Disk>⟧ result state command self.new host.old host.new }
+        ensures answers { (state : State) → IsAt ⟦<H as Disk>⟧ self.old host.old state → IsSome (H.contents host.new) → IsAnswered ⟦<H as Disk>⟧ result state (Request.Single command) self.old self.new host.old host.new }
         ensures ok { OnOk result (GoesOn self.old self.new) }
         ensures refused { IfErr result (λ e. NotAnswered ⟦<H as Disk>⟧ e self.old self.new host.old host.new) }
         ensures beside { TakesNone ⟦<H as Disk>⟧ host.old host.new }
-        ensures leaves { LeavesOthers ⟦<H as Disk>⟧ command self.old self.new host.old host.new }
+        ensures leaves { LeavesOthers ⟦<H as Disk>⟧ (Request.Single command) self.old self.new host.old host.new }
         ensures holds { may_change command ≡ false → OnOk result (HoldsOn ⟦<H as Disk>⟧ self.old self.new host.old host.new) }
         ensures reads { ReadsWithin ⟦<H as Disk>⟧ command self.old host.old host.new }
         ensures unread { needs_no_page command ≡ true → H.reads host.new ≡ H.reads host.old }
@@ -243,28 +270,28 @@ impl Store {
     {
         match command {
             Command::Export { name } => self.answer_export(host, name.as_slice()),
-            command => self.answer_whole(rt, host, command),
+            command => self.answer_whole(rt, host, Request::Single(command)),
         }
     }
 
-    // ... of any other command, whole.
+    // ... of any other request, whole.
     fn answer_whole<R: Threads + Sync, H: Host>(
         &mut self,
         rt: &R,
         host: &mut H,
-        command: Command,
+        request: Request,
     ) -> Result<(), EngineError>
-        requires { CanCome command }
-        ensures answers { (state : State) → IsAt ⟦<H as Disk>⟧ self.old host.old state → IsSome (H.contents host.new) → IsAnswered ⟦<H as Disk>⟧ result state command self.new host.old host.new }
+        requires { CanComeRequest request }
+        ensures answers { (state : State) → IsAt ⟦<H as Disk>⟧ self.old host.old state → IsSome (H.contents host.new) → IsAnswered ⟦<H as Disk>⟧ result state request self.old self.new host.old host.new }
         ensures ok { OnOk result (GoesOn self.old self.new) }
         ensures refused { IfErr result (λ e. NotAnswered ⟦<H as Disk>⟧ e self.old self.new host.old host.new) }
         ensures beside { TakesNone ⟦<H as Disk>⟧ host.old host.new }
-        ensures leaves { LeavesOthers ⟦<H as Disk>⟧ command self.old self.new host.old host.new }
-        ensures holds { may_change command ≡ false → OnOk result (HoldsOn ⟦<H as Disk>⟧ self.old self.new host.old host.new) }
-        ensures reads { ReadsWithin ⟦<H as Disk>⟧ command self.old host.old host.new }
-        ensures unread { needs_no_page command ≡ true → H.reads host.new ≡ H.reads host.old }
+        ensures leaves { LeavesOthers ⟦<H as Disk>⟧ request self.old self.new host.old host.new }
+        ensures holds { may_change_request request ≡ false → OnOk result (HoldsOn ⟦<H as Disk>⟧ self.old self.new host.old host.new) }
+        ensures reads { (command : Command) → request ≡ Request.Single command → ReadsWithin ⟦<H as Disk>⟧ command self.old host.old host.new }
+        ensures unread { (command : Command) → request ≡ Request.Single command → needs_no_page command ≡ true → H.reads host.new ≡ H.reads host.old }
     {
-        let text = self.text_for(rt, host, command)?;
+        let text = self.text_for(rt, host, request)?;
         let Ok(()) = host.emit(text.as_slice()) else {
             return Err(EngineError::Write);
         };
@@ -273,11 +300,11 @@ impl Store {
 
     // ... of an export, record by record.
     fn answer_export<H: Host>(&mut self, host: &mut H, name: &[u8]) -> Result<(), EngineError>
-        ensures answers { (state : State) → IsAt ⟦<H as Disk>⟧ self.old host.old state → IsSome (H.contents host.new) → IsAnswered ⟦<H as Disk>⟧ result state (Command.Export name.now) self.new host.old host.new }
+        ensures answers { (state : State) → IsAt ⟦<H as Disk>⟧ self.old host.old state → IsSome (H.contents host.new) → IsAnswered ⟦<H as Disk>⟧ result state (Request.Single (Command.Export name.now)) self.old self.new host.old host.new }
         ensures ok { OnOk result (GoesOn self.old self.new) }
         ensures refused { IfErr result (λ e. NotAnswered ⟦<H as Disk>⟧ e self.old self.new host.old host.new) }
         ensures beside { TakesNone ⟦<H as Disk>⟧ host.old host.new }
-        ensures leaves { LeavesOthers ⟦<H as Disk>⟧ (Command.Export name.now) self.old self.new host.old host.new }
+        ensures leaves { LeavesOthers ⟦<H as Disk>⟧ (Request.Single (Command.Export name.now)) self.old self.new host.old host.new }
         ensures holds { OnOk result (HoldsOn ⟦<H as Disk>⟧ self.old self.new host.old host.new) }
         ensures early { ReadsToFirst ⟦<H as Disk>⟧ name.now self.old host.old host.new }
     {
@@ -332,26 +359,50 @@ impl Store {
         Ok(())
     }
 
-    // Carries a command out as `apply` does, and gives the text of its reply, whose memory is taken before the commit.
+    // Carries a request out, and gives the text of its answer, whose memory is taken before the commit.
     fn text_for<R: Threads + Sync, D: Disk>(
+        &mut self,
+        rt: &R,
+        disk: &mut D,
+        request: Request,
+    ) -> Result<Bytes, EngineError>
+        requires { CanComeRequest request }
+        ensures writes { (state : State) → IsAt D.Disk self.old disk.old state → IsSome (D.contents disk.new) → IsCarriedWithText D.Disk result state request self.old self.new disk.old disk.new }
+        ensures ok { OnOk result (GoesOn self.old self.new) }
+        ensures refused { IfErr result (λ e. NotApplied D.Disk e self.old self.new disk.old disk.new) }
+        ensures areas { WritesAlone D.Disk disk.old disk.new (λ _. Unit {0}) }
+        ensures leaves { LeavesOthers D.Disk request self.old self.new disk.old disk.new }
+        ensures holds { may_change_request request ≡ false → OnOk result (HoldsOn D.Disk self.old self.new disk.old disk.new) }
+        ensures reads { (command : Command) → request ≡ Request.Single command → ReadsWithin D.Disk command self.old disk.old disk.new }
+        ensures unread { (command : Command) → request ≡ Request.Single command → needs_no_page command ≡ true → D.reads disk.new ≡ D.reads disk.old }
+    {
+        if self.is_ended() {
+            return Err(EngineError::Ended);
+        }
+        match request {
+            Request::Single(command) => self.text_of(rt, disk, command),
+            Request::Transaction(commands) => self.transact(rt, disk, commands),
+        }
+    }
+
+    // ... of a command by itself.
+    fn text_of<R: Threads + Sync, D: Disk>(
         &mut self,
         rt: &R,
         disk: &mut D,
         command: Command,
     ) -> Result<Bytes, EngineError>
-        requires { CanCome command }
-        ensures writes { (state : State) → IsAt D.Disk self.old disk.old state → IsSome (D.contents disk.new) → IsAppliedWithText D.Disk result state command self.new disk.old disk.new }
+        requires runs { is_ended self.old ≡ false }
+        requires come { CanCome command }
+        ensures writes { (state : State) → IsAt D.Disk self.old disk.old state → IsSome (D.contents disk.new) → IsCarriedWithText D.Disk result state (Request.Single command) self.old self.new disk.old disk.new }
         ensures ok { OnOk result (GoesOn self.old self.new) }
         ensures refused { IfErr result (λ e. NotApplied D.Disk e self.old self.new disk.old disk.new) }
         ensures areas { WritesAlone D.Disk disk.old disk.new (λ _. Unit {0}) }
-        ensures leaves { LeavesOthers D.Disk command self.old self.new disk.old disk.new }
+        ensures leaves { LeavesOthers D.Disk (Request.Single command) self.old self.new disk.old disk.new }
         ensures holds { may_change command ≡ false → OnOk result (HoldsOn D.Disk self.old self.new disk.old disk.new) }
         ensures reads { ReadsWithin D.Disk command self.old disk.old disk.new }
         ensures unread { needs_no_page command ≡ true → D.reads disk.new ≡ D.reads disk.old }
     {
-        if self.is_ended() {
-            return Err(EngineError::Ended);
-        }
         if may_change(&command) {
             let (_, text) = self.change(rt, disk, command)?;
             return Ok(text);
@@ -363,11 +414,11 @@ impl Store {
     fn text_behind<D: Disk>(&mut self, disk: &mut D, command: Command) -> Result<Bytes, EngineError>
         requires runs { is_ended self.old ≡ false }
         requires quiet { may_change command ≡ false }
-        ensures writes { (state : State) → IsAt D.Disk self.old disk.old state → IsSome (D.contents disk.new) → IsAppliedWithText D.Disk result state command self.new disk.old disk.new }
+        ensures writes { (state : State) → IsAt D.Disk self.old disk.old state → IsSome (D.contents disk.new) → IsCarriedWithText D.Disk result state (Request.Single command) self.old self.new disk.old disk.new }
         ensures ok { OnOk result (GoesOn self.old self.new) }
         ensures refused { IfErr result (λ e. NotApplied D.Disk e self.old self.new disk.old disk.new) }
         ensures areas { WritesAlone D.Disk disk.old disk.new (λ _. Unit {0}) }
-        ensures leaves { LeavesOthers D.Disk command self.old self.new disk.old disk.new }
+        ensures leaves { LeavesOthers D.Disk (Request.Single command) self.old self.new disk.old disk.new }
         ensures holds { OnOk result (HoldsOn D.Disk self.old self.new disk.old disk.new) }
         ensures reads { ReadsWithin D.Disk command self.old disk.old disk.new }
         ensures unread { needs_no_page command ≡ true → D.reads disk.new ≡ D.reads disk.old }

@@ -1,6 +1,6 @@
 use Rattle.std.proofs.Common.{sym, ◌∙◌, arith}
 use Rattle.std.proofs.lemmas.Bool.{eqb-true, eqb-false}
-use Rattle.nx_script.specs.Field.{by_bytes}
+use Rattle.nx_pyx.specs.DocumentName.{by_bytes}
 use Rattle.nx_catalog.proofs.CatalogLemmas.{none_of_documents, none_of_rules, more_behind, read_documents_are, read_catalog_is}
 use Rattle.nx_catalog.proofs.PlaceLemmas.{no_places}
 use Rattle.nx_catalog.proofs.reading.catalog_of.Goals as goal

@@ -1,6 +1,6 @@
 use Rattle.std.proofs.Common.{◌≡◌, [], true, false, ap, sym, ◌∙◌}
 use Rattle.std.specs.Ordering.{is_lt}
-use Rattle.nx_script.specs.Field.{name_order, by_bytes}
+use Rattle.nx_pyx.specs.DocumentName.{name_order, by_bytes}
 use Rattle.nx_catalog.specs.Catalog.{Document}
 use Rattle.nx_catalog.specs.Reading.{document_at, documents_at}
 use Rattle.nx_catalog.proofs.RisingLemmas.{is_less}

@@ -1,5 +1,5 @@
 use Rattle.std.specs.BTreeMap.{IsOrdered}
-use Rattle.nx_script.specs.Field.{vector_order}
+use Rattle.nx_pyx.specs.DocumentName.{vector_order}
 use Rattle.nx_catalog.specs.Reading.{documents_at}
 use Rattle.std.proofs.Common.{[]}
 use Rattle.nx_catalog.proofs.DocumentLemmas.{HasRead}

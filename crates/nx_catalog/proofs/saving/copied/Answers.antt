@@ -1,5 +1,4 @@
-use Rattle.std.proofs.Common.{◌≡◌, List, sym, ap, ap₂, subst, ◌∙◌}
-use Rattle.nx_matrix.specs.declared.rule.Rule.{Rule}
+use Rattle.std.proofs.Common.{◌≡◌, sym, subst, ◌∙◌}
 use Rattle.nx_matrix.specs.Rules.{AreRules, SetsEntry}
 use Rattle.nx_catalog.proofs.SavingLemmas.{copied_more, copied_all}
 use Rattle.nx_catalog.proofs.saving.copied.Goals as goal

@@ -1,5 +1,5 @@
 use Rattle.std.proofs.Common.{◌≡◌, ◌+◌, ℕ, List, length, ap, sym, subst, ◌∙◌, arith, length-append}
-use Rattle.nx_script.specs.Field.{by_bytes}
+use Rattle.nx_pyx.specs.DocumentName.{by_bytes}
 use Rattle.nx_catalog.specs.Inside.{IsPlaceOf}
 use Rattle.nx_catalog.specs.Catalog.{document_bytes}
 use Rattle.nx_catalog.proofs.WritingLemmas.{entries_bytes}

@@ -1,5 +1,5 @@
 use Rattle.std.proofs.Common.{◌≡◌, ◌+◌, length}
-use Rattle.nx_script.specs.Field.{by_bytes}
+use Rattle.nx_pyx.specs.DocumentName.{by_bytes}
 use Rattle.nx_catalog.specs.Inside.{HavePlaces}
 use Rattle.nx_catalog.proofs.WritingLemmas.{entries_bytes}
 use Rattle.nx_catalog.proofs.saving.places_of.Given as goal

@@ -1,10 +1,8 @@
-use Rattle.std.proofs.Common.{ℕ, List, Option, None, sym, ap, ◌∙◌, subst, arith, ◌≡◌}
-use Rattle.std.specs.Prelude.{All, is_some}
+use Rattle.std.proofs.Common.{List, sym, ap, ◌∙◌}
+use Rattle.std.specs.Prelude.{is_some}
 use Rattle.std.specs.Option.{option_copied_mut}
 use Rattle.std.proofs.lemmas.Bool.{false≢true}
-use Rattle.std.proofs.lemmas.List.Elements.{recursion_from_All, All-from_recursion}
-use Rattle.nx_script.specs.Field.{by_bytes}
-use Rattle.nx_catalog.specs.Catalog.{CanBeKept}
+use Rattle.nx_pyx.specs.DocumentName.{by_bytes}
 use Rattle.nx_catalog.proofs.NameMap.{map_in-insert, get-map_in}
 use Rattle.nx_catalog.specs.Inside.{names_of}
 use Rattle.nx_catalog.proofs.InsideLemmas.{Kept, set_documents}

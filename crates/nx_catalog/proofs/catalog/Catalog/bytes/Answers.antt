@@ -2,7 +2,7 @@ use Rattle.std.proofs.Common.{◌++◌, ℕ, List, length, ap, sym, ◌∙◌}
 use Rattle.std.specs.Prelude.{flat_map}
 use Rattle.std.specs.FinMap.{entries}
 use Rattle.std.proofs.lemmas.List.{length-map}
-use Rattle.nx_script.specs.Field.{by_bytes}
+use Rattle.nx_pyx.specs.DocumentName.{by_bytes}
 use Rattle.nx_catalog.specs.Catalog.{Document, document_bytes, rule_bytes, listed_bytes}
 use Rattle.nx_piece.specs.Encoding.{four_bytes}
 use Rattle.nx_catalog.proofs.InsideLemmas.{Kept, Shows, shown_entries, shown_rules, catalog_form, spelled}

@@ -1,5 +1,5 @@
 use Rattle.std.proofs.Common.{ap, ◌∙◌}
-use Rattle.nx_script.specs.Field.{by_bytes}
+use Rattle.nx_pyx.specs.DocumentName.{by_bytes}
 use Rattle.nx_catalog.proofs.InsideLemmas.{shown_entries}
 use Rattle.nx_catalog.proofs.catalog.Catalog.iter.Goals as goal
 

@@ -1,8 +1,8 @@
-use Rattle.std.proofs.Common.{◌≡◌, ◌∙◌, ap, subst}
+use Rattle.std.proofs.Common.{◌∙◌, subst}
 use Rattle.std.specs.Prelude.{IfSome}
 use Rattle.std.specs.FinMap.{entries}
 use Rattle.nx_matrix.specs.Rules.{AreRules}
-use Rattle.nx_script.specs.Field.{by_bytes}
+use Rattle.nx_pyx.specs.DocumentName.{by_bytes}
 use Rattle.nx_catalog.specs.Catalog.{Contents}
 use Rattle.nx_catalog.specs.Inside.{IsPlaceOf}
 use Rattle.nx_catalog.proofs.InsideLemmas.{shown_entries, shown_rules}

@@ -1,10 +1,10 @@
-use Rattle.std.proofs.Common.{◌≡◌, ◌∙◌, List, ℕ, inl, refl, sym, ap, ap₂, subst}
+use Rattle.std.proofs.Common.{◌∙◌, List, ℕ, inl, refl, sym, ap, ap₂, subst}
 use Rattle.std.specs.Prelude.{All}
 use Rattle.std.specs.FinMap.{contains_key, insert}
 use Rattle.nx_matrix.specs.declared.rule.Rule.{Rule}
 use Rattle.nx_matrix.specs.Rules.{AreRules}
-use Rattle.nx_script.specs.Field.{by_bytes}
-use Rattle.nx_script.specs.Rule.{HasLabels}
+use Rattle.nx_pyx.specs.DocumentName.{by_bytes}
+use Rattle.nx_matrix.specs.RuleLabels.{HasLabels}
 use Rattle.nx_records.specs.Within.{PatchesCatalog}
 use Rattle.nx_catalog.specs.Catalog.{Contents, Entries}
 use Rattle.nx_catalog.specs.NameMap.{map_in}

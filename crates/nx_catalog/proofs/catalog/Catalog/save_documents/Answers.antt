@@ -1,4 +1,4 @@
-use Rattle.std.proofs.Common.{ℕ, List, sym, subst, ap, ◌∙◌}
+use Rattle.std.proofs.Common.{ℕ, List, sym, subst}
 use Rattle.std.specs.Prelude.{All}
 use Rattle.std.specs.Global.{Vec}
 use Rattle.std.specs.BTreeMap.{BTreeMap}
@@ -6,10 +6,10 @@ use Rattle.nx_hold.specs.declared.entry.DocEntry.{DocEntry}
 use Rattle.nx_matrix.specs.declared.rule.Rule.{Rule}
 use Rattle.nx_records.specs.Changes.{catalog_needs}
 use Rattle.nx_records.specs.Refusals.{NotStored}
-use Rattle.nx_script.specs.Rule.{HasLabels}
+use Rattle.nx_matrix.specs.RuleLabels.{HasLabels}
 use Rattle.nx_catalog.specs.NameMap.{map_in}
-use Rattle.nx_catalog.specs.Catalog.{Entries, catalog_bytes}
-use Rattle.nx_catalog.proofs.InsideLemmas.{shown_map, shown_rules}
+use Rattle.nx_catalog.specs.Catalog.{catalog_bytes}
+use Rattle.nx_catalog.proofs.InsideLemmas.{shown_rules}
 use Rattle.nx_catalog.proofs.catalog.Catalog.save_documents.Goals as goal
 
 pub returns-in-Ok-clause-form : goal.returns-in-Ok-clause-form

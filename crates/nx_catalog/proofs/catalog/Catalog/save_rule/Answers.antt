@@ -1,8 +1,8 @@
-use Rattle.std.proofs.Common.{◌≡◌, List, ap, sym, subst, ◌∙◌}
+use Rattle.std.proofs.Common.{◌≡◌, List, sym, subst, ◌∙◌}
 use Rattle.std.specs.Prelude.{All}
 use Rattle.nx_matrix.specs.declared.rule.Rule.{Rule}
 use Rattle.nx_matrix.specs.Rules.{AreRules, SetsEntry}
-use Rattle.nx_script.specs.Rule.{HasLabels}
+use Rattle.nx_matrix.specs.RuleLabels.{HasLabels}
 use Rattle.nx_catalog.specs.Saving.{MakesRule}
 use Rattle.nx_catalog.proofs.InsideLemmas.{shown_rules}
 use Rattle.nx_catalog.proofs.SavingLemmas.{makes_labels, stored_ruled}

@@ -1,12 +1,9 @@
-use Rattle.std.proofs.Common.{ℕ, List, sym, subst, ap, ◌∙◌}
-use Rattle.std.specs.Prelude.{All}
+use Rattle.std.proofs.Common.{List, subst}
 use Rattle.nx_matrix.specs.declared.rule.Rule.{Rule}
 use Rattle.nx_records.specs.Changes.{catalog_needs}
 use Rattle.nx_records.specs.Refusals.{NotStored}
-use Rattle.nx_script.specs.Rule.{HasLabels}
-use Rattle.nx_catalog.specs.NameMap.{map_in}
 use Rattle.nx_catalog.specs.Catalog.{Entries, catalog_bytes}
-use Rattle.nx_catalog.proofs.InsideLemmas.{shown_map, shown_rules}
+use Rattle.nx_catalog.proofs.InsideLemmas.{shown_map}
 use Rattle.nx_catalog.proofs.catalog.Catalog.save_rules.Goals as goal
 
 pub returns-in-Err-clause-refused : goal.returns-in-Err-clause-refused

@@ -1,7 +1,7 @@
 use Rattle.std.proofs.Common.{ℕ, List, ap, subst, sym, ◌∙◌}
 use Rattle.std.specs.Prelude.{IsTrue}
 use Rattle.std.specs.FinMap.{insert}
-use Rattle.nx_script.specs.Field.{is_document_name}
+use Rattle.nx_pyx.specs.DocumentName.{is_document_name}
 use Rattle.nx_catalog.proofs.NameMap.{map_in-insert}
 use Rattle.nx_catalog.proofs.InsideLemmas.{put_documents, shown_map, room_left}
 use Rattle.nx_catalog.proofs.PlaceLemmas.{no_places}

@@ -1,6 +1,6 @@
 use Rattle.std.proofs.Common.{◌<◌, ◌∷◌, IsTrue, refl, sym, ap, subst, ◌∙◌}
 use Rattle.nx_tree.specs.Document.{IsDocument}
-use Rattle.nx_script.specs.Field.{is_document_name}
+use Rattle.nx_pyx.specs.DocumentName.{is_document_name}
 use Rattle.nx_gen.specs.Remaining.{remaining_at}
 use Rattle.nx_gen.proofs.CanComeLemmas.{document_is}
 use Rattle.nx_gen.proofs.NextLemmas.{positive, drawn_is, left_to_delete, left_to_draw}

@@ -1,32 +1,39 @@
-use Rattle.std.proofs.Common.{◌≡◌, ℕ, List, sym, subst, ap, ◌∙◌}
-use Rattle.std.proofs.lemmas.Bool.{false≢true}
+use Rattle.std.proofs.Common.{◌≡◌, ℕ, List, sym, subst, ◌∙◌}
 use Rattle.nx_script.specs.declared.command.Command.{Command}
 use Rattle.nx_script.specs.declared.command.Command.TheVariants.{Export}
-use Rattle.nx_store.specs.Reads.{is_lookup, needs_no_page, ReadsToFirst}
+use Rattle.nx_script.specs.declared.request.Request.{Request}
+use Rattle.nx_script.specs.declared.request.Request.TheVariants.{Single}
+use Rattle.nx_store.specs.Reads.{ReadsWithin}
 use Rattle.nx_store.specs.Staying.{LeavesOthers}
 use Rattle.nx_store.specs.Store.{IsAnswered}
-use Rattle.nx_store.proofs.ReadLemmas.{on_ok, other_reads}
 use Rattle.nx_store.proofs.store.Store.answer.Goals as goal
 
-pub returns-in-Export-clause-answers : goal.returns-in-Export-clause-answers
-returns-in-Export-clause-answers g c state at told =
-    subst (λ (k : Command). IsAnswered g.H.Disk c.answer_export.result state k c.answer_export.new.self c.args.host.now c.answer_export.new.host) (ap Export c.as_slice.ensures ∙ sym c.in-Export.is) (c.answer_export.ensures.answers state at told)
+pub returns-in-Single-clause-answers : goal.returns-in-Single-clause-answers
+returns-in-Single-clause-answers g c state at told =
+    subst (λ (q : Request). IsAnswered g.H.Disk c.answer_one.result state q c.args.self.now c.answer_one.new.self c.args.host.now c.answer_one.new.host) (sym c.in-Single.is) (c.answer_one.ensures.answers state at told)
 
-pub returns-in-Export-clause-leaves : goal.returns-in-Export-clause-leaves
-returns-in-Export-clause-leaves g c =
-    subst (λ (k : Command). LeavesOthers g.H.Disk k c.args.self.now c.answer_export.new.self c.args.host.now c.answer_export.new.host) (ap Export c.as_slice.ensures ∙ sym c.in-Export.is) c.answer_export.ensures.leaves
+pub returns-in-Single-clause-leaves : goal.returns-in-Single-clause-leaves
+returns-in-Single-clause-leaves g c =
+    subst (λ (q : Request). LeavesOthers g.H.Disk q c.args.self.now c.answer_one.new.self c.args.host.now c.answer_one.new.host) (sym c.in-Single.is) c.answer_one.ensures.leaves
 
-pub returns-in-Export-clause-holds : goal.returns-in-Export-clause-holds
-returns-in-Export-clause-holds g c quiet = c.answer_export.ensures.holds
+pub returns-in-Single-clause-reads : goal.returns-in-Single-clause-reads
+returns-in-Single-clause-reads g c command is =
+    let same : c.in-Single.command ≡ command = cc (c.in-Single.is, is) in
+    subst (λ (k : Command). ReadsWithin g.H.Disk k c.args.self.now c.args.host.now c.answer_one.new.host) same c.answer_one.ensures.reads
 
-pub returns-in-Export-clause-reads : goal.returns-in-Export-clause-reads
-returns-in-Export-clause-reads g c =
-    other_reads g.H.Disk c.args.command c.args.self.now c.args.host.now c.answer_export.new.host (ap is_lookup c.in-Export.is)
+pub returns-in-Transaction-clause-answers : goal.returns-in-Transaction-clause-answers
+returns-in-Transaction-clause-answers g c state at told =
+    subst (λ (q : Request). IsAnswered g.H.Disk c.answer_whole.result state q c.args.self.now c.answer_whole.new.self c.args.host.now c.answer_whole.new.host) (sym c.in-Transaction.is) (c.answer_whole.ensures.answers state at told)
 
-pub returns-in-Export-clause-unread : goal.returns-in-Export-clause-unread
-returns-in-Export-clause-unread g c none = absurd (false≢true (sym (ap needs_no_page c.in-Export.is) ∙ none))
+pub returns-in-Transaction-clause-leaves : goal.returns-in-Transaction-clause-leaves
+returns-in-Transaction-clause-leaves g c =
+    subst (λ (q : Request). LeavesOthers g.H.Disk q c.args.self.now c.answer_whole.new.self c.args.host.now c.answer_whole.new.host) (sym c.in-Transaction.is) c.answer_whole.ensures.leaves
 
-pub returns-in-Export-clause-early : goal.returns-in-Export-clause-early
-returns-in-Export-clause-early g c name is =
-    let same : c.as_slice.result.now ≡ name = cc (c.as_slice.ensures, c.in-Export.is, is) in
-    subst (λ (n : List ℕ). ReadsToFirst g.H.Disk n c.args.self.now c.args.host.now c.answer_export.new.host) same c.answer_export.ensures.early
+pub returns-in-Transaction-clause-reads : goal.returns-in-Transaction-clause-reads
+returns-in-Transaction-clause-reads g c command is = absurd (let no : ⊥ = cc (c.in-Transaction.is, is) in no)
+
+pub returns-in-Transaction-clause-early : goal.returns-in-Transaction-clause-early
+returns-in-Transaction-clause-early g c name is = absurd (let no : ⊥ = cc (c.in-Transaction.is, is) in no)
+
+pub returns-in-Single-clause-early : goal.returns-in-Single-clause-early
+returns-in-Single-clause-early g c name is = let same : c.in-Single.command ≡ Export name = cc (c.in-Single.is, is) in c.answer_one.ensures.early name same

@@ -6,6 +6,7 @@ use Rattle.nx_host.specs.Phase.{GivesAlone}
 use Rattle.nx_nav.specs.GivenLaws.{unwritten_before}
 use Rattle.nx_script.specs.declared.command.Command.TheVariants.{Export}
 use Rattle.nx_store.specs.Store.{IsAnswered}
+use Rattle.nx_script.specs.declared.request.Request.TheVariants.{Single}
 use Rattle.nx_store.specs.declared.error.EngineError.{EngineError}
 use Rattle.nx_store.proofs.ShowLemmas.{handed}
 use Rattle.nx_store.proofs.ReadLemmas.{given_holds}
@@ -15,14 +16,15 @@ use Rattle.nx_store.proofs.store.Store.answer_export.Goals as goal
 
 pub returns-in_err-export_into-clause-answers : goal.returns-in_err-export_into-clause-answers
 returns-in_err-export_into-clause-answers g c state at told =
-    handed c.from_residual.result (λ (r : Result (Unit {0}) EngineError). IsAnswered g.H.Disk r state (Export c.args.name.now) c.export_into.new.self c.args.host.now c.export_into.new.host) c.in_err-export_into.field-0.0
+    handed c.from_residual.result (λ (r : Result (Unit {0}) EngineError). IsAnswered g.H.Disk r state (Single (Export c.args.name.now)) c.args.self.now c.export_into.new.self c.args.host.now c.export_into.new.host) c.in_err-export_into.field-0.0
     (err_from_is_err_and c.from_residual.result c.from_residual.ensures.1)
-    (export_failed g.H.Disk c.in_err-export_into.field-0.0 c.export_into.new.self c.args.host.now c.export_into.new.host state c.args.name.now c.export_into.new.block
+    (export_failed g.H.Disk c.in_err-export_into.field-0.0 c.args.self.now c.export_into.new.self c.args.host.now c.export_into.new.host state c.args.name.now c.export_into.new.block
+    (λ runs. gave_holds g.H.Disk c.args.self.now c.export_into.new.self c.args.host.now c.export_into.new.host c.export_into.ensures.areas (c.export_into.ensures.same runs))
     (from_empty g.H.Disk (Err c.in_err-export_into.field-0.0) c.export_into.new.self c.args.host.now c.export_into.new.host state c.args.name.now c.new-block.result c.export_into.new.block c.new-block.ensures (c.in_err-export_into.ensures.exports state at told)))
 
 pub returns-in_err-export_into-clause-leaves : goal.returns-in_err-export_into-clause-leaves
 returns-in_err-export_into-clause-leaves g c =
-    gave_leaves g.H.Disk (Export c.args.name.now) c.args.self.now c.export_into.new.self c.args.host.now c.export_into.new.host c.export_into.ensures.areas c.export_into.ensures.same
+    gave_leaves g.H.Disk (Single (Export c.args.name.now)) c.args.self.now c.export_into.new.self c.args.host.now c.export_into.new.host c.export_into.ensures.areas c.export_into.ensures.same
 
 pub returns-in_err-export_into-clause-early : goal.returns-in_err-export_into-clause-early
 returns-in_err-export_into-clause-early g c = c.export_into.ensures.early
@@ -39,7 +41,10 @@ returns-in_default-clause-answers g c state at told =
     }) in
     export_unwritten g.H.Disk c.export_into.new.self c.args.host.now c.export_into.new.host c.emit.new.self state c.args.name.now c.export_into.new.block alone.areas told
     (from_empty g.H.Disk (Ok tt) c.export_into.new.self c.args.host.now c.export_into.new.host state c.args.name.now c.new-block.result c.export_into.new.block c.new-block.ensures
-    (c.in_ok-export_into.ensures.exports state at (told_before g.H.Disk c.export_into.new.block c.export_into.new.host c.emit.new.self alone.areas told)))
+    (c.in_ok-export_into.ensures.exports state at (told_before g.H.Disk c.export_into.new.block c.export_into.new.host c.emit.new.self alone.areas told))) c.args.self.now
+    (given_holds g.H.Disk c.args.self.now c.export_into.new.self c.args.host.now c.export_into.new.host c.emit.new.self
+    (AppendsPrefix c.export_into.new.block (g.H.Disk.beside c.export_into.new.host).output) alone.areas
+    (gave_holds g.H.Disk c.args.self.now c.export_into.new.self c.args.host.now c.export_into.new.host c.export_into.ensures.areas (c.export_into.ensures.same (c.in_ok-export_into.ensures.ok).1)))
 
 pub returns-in_default-clause-beside : goal.returns-in_default-clause-beside
 returns-in_default-clause-beside g c =
@@ -61,9 +66,9 @@ returns-in_default-clause-leaves g c =
       input_stays = e.input;
       in_faults_stay = e.in_faults;
     }) in
-    given_leaves g.H.Disk (Export c.args.name.now) c.args.self.now c.export_into.new.self c.args.host.now c.export_into.new.host c.emit.new.self
+    given_leaves g.H.Disk (Single (Export c.args.name.now)) c.args.self.now c.export_into.new.self c.args.host.now c.export_into.new.host c.emit.new.self
     (AppendsPrefix c.export_into.new.block (g.H.Disk.beside c.export_into.new.host).output) alone.areas
-    (gave_leaves g.H.Disk (Export c.args.name.now) c.args.self.now c.export_into.new.self c.args.host.now c.export_into.new.host c.export_into.ensures.areas c.export_into.ensures.same)
+    (gave_leaves g.H.Disk (Single (Export c.args.name.now)) c.args.self.now c.export_into.new.self c.args.host.now c.export_into.new.host c.export_into.ensures.areas c.export_into.ensures.same)
 
 pub returns-in_default-clause-early : goal.returns-in_default-clause-early
 returns-in_default-clause-early g c =
@@ -95,6 +100,10 @@ returns-clause-answers g c state at told =
     export_answered g.H.Disk c.export_into.new.self c.args.host.now c.export_into.new.host c.emit.new.self state c.args.name.now c.export_into.new.block alone.areas told
     (from_empty g.H.Disk (Ok tt) c.export_into.new.self c.args.host.now c.export_into.new.host state c.args.name.now c.new-block.result c.export_into.new.block c.new-block.ensures
     (c.in_ok-export_into.ensures.exports state at (told_before g.H.Disk c.export_into.new.block c.export_into.new.host c.emit.new.self alone.areas told)))
+    c.args.self.now
+    (given_holds g.H.Disk c.args.self.now c.export_into.new.self c.args.host.now c.export_into.new.host c.emit.new.self
+    (AppendsPrefix c.export_into.new.block (g.H.Disk.beside c.export_into.new.host).output) alone.areas
+    (gave_holds g.H.Disk c.args.self.now c.export_into.new.self c.args.host.now c.export_into.new.host c.export_into.ensures.areas (c.export_into.ensures.same (c.in_ok-export_into.ensures.ok).1)))
     (subst (λ (b : List ℕ). Appends b (g.H.Disk.beside c.export_into.new.host).output (g.H.Disk.beside c.emit.new.self).output) c.as_slice.ensures e.ok)
 
 pub returns-clause-beside : goal.returns-clause-beside
@@ -117,9 +126,9 @@ returns-clause-leaves g c =
       input_stays = e.input;
       in_faults_stay = e.in_faults;
     }) in
-    given_leaves g.H.Disk (Export c.args.name.now) c.args.self.now c.export_into.new.self c.args.host.now c.export_into.new.host c.emit.new.self
+    given_leaves g.H.Disk (Single (Export c.args.name.now)) c.args.self.now c.export_into.new.self c.args.host.now c.export_into.new.host c.emit.new.self
     (AppendsPrefix c.export_into.new.block (g.H.Disk.beside c.export_into.new.host).output) alone.areas
-    (gave_leaves g.H.Disk (Export c.args.name.now) c.args.self.now c.export_into.new.self c.args.host.now c.export_into.new.host c.export_into.ensures.areas c.export_into.ensures.same)
+    (gave_leaves g.H.Disk (Single (Export c.args.name.now)) c.args.self.now c.export_into.new.self c.args.host.now c.export_into.new.host c.export_into.ensures.areas c.export_into.ensures.same)
 
 pub returns-clause-early : goal.returns-clause-early
 returns-clause-early g c =

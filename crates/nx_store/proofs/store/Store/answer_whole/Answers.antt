@@ -13,9 +13,9 @@ use Rattle.nx_store.proofs.store.Store.answer_whole.Goals as goal
 
 pub returns-in_err-text-clause-answers : goal.returns-in_err-text-clause-answers
 returns-in_err-text-clause-answers g c state at told =
-    handed c.from_residual.result (λ (r : Result (Unit {0}) EngineError). IsAnswered g.H.Disk r state c.args.command c.text_for.new.self c.args.host.now c.text_for.new.disk) c.in_err-text.field-0.0
+    handed c.from_residual.result (λ (r : Result (Unit {0}) EngineError). IsAnswered g.H.Disk r state c.args.request c.args.self.now c.text_for.new.self c.args.host.now c.text_for.new.disk) c.in_err-text.field-0.0
     (err_from_is_err_and c.from_residual.result c.from_residual.ensures.1)
-    (failed_answered g.H.Disk c.text_for.new.self c.args.host.now c.text_for.new.disk state c.args.command c.in_err-text.field-0.0 (c.in_err-text.ensures.writes state at told))
+    (failed_answered g.H.Disk c.args.self.now c.text_for.new.self c.args.host.now c.text_for.new.disk state c.args.request c.in_err-text.field-0.0 (c.in_err-text.ensures.writes state at told))
 
 pub returns-in_default-clause-answers : goal.returns-in_default-clause-answers
 returns-in_default-clause-answers g c state at told =
@@ -30,8 +30,8 @@ returns-in_default-clause-answers g c state at told =
       time = e.time;
     } in
     let kept = c.in_ok-text.ensures.areas.beside_stays.output in
-    let w = c.in_ok-text.ensures.writes state at (told_between g.H.Disk c.text_for.new.self c.args.host.now c.text_for.new.disk c.emit.new.self state c.args.command c.as_slice.result.now kept gives told) in
-    unwritten_answered g.H.Disk c.text_for.new.self c.args.host.now c.text_for.new.disk c.emit.new.self state c.args.command c.as_slice.result.now kept gives told w.0 (c.as_slice.ensures ∙ w.1) w.2
+    let w = c.in_ok-text.ensures.writes state at (told_between g.H.Disk c.args.self.now c.text_for.new.self c.args.host.now c.text_for.new.disk c.emit.new.self state c.args.request c.as_slice.result.now kept gives told) in
+    unwritten_answered g.H.Disk c.args.self.now c.text_for.new.self c.args.host.now c.text_for.new.disk c.emit.new.self state c.args.request c.as_slice.result.now kept gives told w.0 (c.as_slice.ensures ∙ w.1) w.2 w.3
 
 pub returns-clause-answers : goal.returns-clause-answers
 returns-clause-answers g c state at told =
@@ -46,8 +46,8 @@ returns-clause-answers g c state at told =
       time = e.time;
     } in
     let kept = c.in_ok-text.ensures.areas.beside_stays.output in
-    let w = c.in_ok-text.ensures.writes state at (told_between g.H.Disk c.text_for.new.self c.args.host.now c.text_for.new.disk c.emit.new.self state c.args.command c.as_slice.result.now kept gives told) in
-    given_answered g.H.Disk c.text_for.new.self c.args.host.now c.text_for.new.disk c.emit.new.self state c.args.command c.as_slice.result.now kept gives told w.0 (c.as_slice.ensures ∙ w.1) w.2 e.ok
+    let w = c.in_ok-text.ensures.writes state at (told_between g.H.Disk c.args.self.now c.text_for.new.self c.args.host.now c.text_for.new.disk c.emit.new.self state c.args.request c.as_slice.result.now kept gives told) in
+    given_answered g.H.Disk c.args.self.now c.text_for.new.self c.args.host.now c.text_for.new.disk c.emit.new.self state c.args.request c.as_slice.result.now kept gives told w.0 (c.as_slice.ensures ∙ w.1) w.2 w.3 e.ok
 
 pub returns-in_default-clause-leaves : goal.returns-in_default-clause-leaves
 returns-in_default-clause-leaves g c =
@@ -61,7 +61,7 @@ returns-in_default-clause-leaves g c =
       out_faults_later = e.out_faults;
       time = e.time;
     } in
-    given_leaves g.H.Disk c.args.command c.args.self.now c.text_for.new.self c.args.host.now c.text_for.new.disk c.emit.new.self
+    given_leaves g.H.Disk c.args.request c.args.self.now c.text_for.new.self c.args.host.now c.text_for.new.disk c.emit.new.self
     (AppendsPrefix c.as_slice.result.now (g.H.Disk.beside c.text_for.new.disk).output) gives c.text_for.ensures.leaves
 
 pub returns-clause-leaves : goal.returns-clause-leaves
@@ -76,24 +76,24 @@ returns-clause-leaves g c =
       out_faults_later = e.out_faults;
       time = e.time;
     } in
-    given_leaves g.H.Disk c.args.command c.args.self.now c.text_for.new.self c.args.host.now c.text_for.new.disk c.emit.new.self
+    given_leaves g.H.Disk c.args.request c.args.self.now c.text_for.new.self c.args.host.now c.text_for.new.disk c.emit.new.self
     (AppendsPrefix c.as_slice.result.now (g.H.Disk.beside c.text_for.new.disk).output) gives c.text_for.ensures.leaves
 
 pub returns-in_default-clause-reads : goal.returns-in_default-clause-reads
-returns-in_default-clause-reads g c =
-    given_reads g.H.Disk c.args.command c.args.self.now c.args.host.now c.text_for.new.disk c.emit.new.self c.text_for.ensures.reads c.in_default.ensures.reads
+returns-in_default-clause-reads g c command is =
+    given_reads g.H.Disk command c.args.self.now c.args.host.now c.text_for.new.disk c.emit.new.self (c.text_for.ensures.reads command is) c.in_default.ensures.reads
 
 pub returns-in_default-clause-unread : goal.returns-in_default-clause-unread
-returns-in_default-clause-unread g c none =
-    c.in_default.ensures.reads ∙ c.text_for.ensures.unread none
+returns-in_default-clause-unread g c command is none =
+    c.in_default.ensures.reads ∙ c.text_for.ensures.unread command is none
 
 pub returns-clause-reads : goal.returns-clause-reads
-returns-clause-reads g c =
-    given_reads g.H.Disk c.args.command c.args.self.now c.args.host.now c.text_for.new.disk c.emit.new.self c.text_for.ensures.reads c.in-Ok.ensures.reads
+returns-clause-reads g c command is =
+    given_reads g.H.Disk command c.args.self.now c.args.host.now c.text_for.new.disk c.emit.new.self (c.text_for.ensures.reads command is) c.in-Ok.ensures.reads
 
 pub returns-clause-unread : goal.returns-clause-unread
-returns-clause-unread g c none =
-    c.in-Ok.ensures.reads ∙ c.text_for.ensures.unread none
+returns-clause-unread g c command is none =
+    c.in-Ok.ensures.reads ∙ c.text_for.ensures.unread command is none
 
 pub returns-clause-holds : goal.returns-clause-holds
 returns-clause-holds g c quiet =

@@ -30,20 +30,20 @@ returns-in_err-put_entry-clause-refused g c =
 
 pub returns-clause-ok : goal.returns-clause-ok
 returns-clause-ok g c =
-    on_ok_then c.save_entry.result c.save_entry.ensures.ok (λ saved state at.
+    on_ok_then c.save_entry.result c.save_entry.ensures.ok (λ set saved state at.
     let b = brought_at g.D.Disk c.args.self.now c.args.disk.now state at c.store.new.records c.store.new.disk c.args.name.now c.args.tree c.args.parts.now c.in_ok-root.root.page c.in_ok-root.root.slot c.count-nodes.result
     c.requires.new c.requires.chosen.in_order c.count-nodes.ensures c.in_ok-root.ensures.ok in
     kept_at g.D.Disk c.args.self.now c.args.disk.now state at c.store.new.records c.save_entry.new.self c.store.new.disk c.save_entry.new.disk c.put_entry.new.self.catalog c.args.name.now c.args.tree c.args.parts.now
     (record { root = record { page = c.in_ok-root.root.page; slot = c.in_ok-root.root.slot }; nodes = c.count-nodes.result }) c.in_ok-put_entry.ensures.ok c.in_ok-put_entry.ensures.rules
-    (c.save_entry.ensures.form (ap (λ (r : Records). has_ended r) c.in_ok-put_entry.ensures.records ∙ (c.in_ok-root.ensures.keeps.0).after)) saved.0 b.0 b.1 b.2
-    (subst (λ (r : Records). ComesTo g.D.Disk r c.save_entry.new.self.records c.store.new.disk c.save_entry.new.disk (λ was now. SetsCatalog (catalog_bytes c.put_entry.new.self.catalog) was now)) c.in_ok-put_entry.ensures.records saved.1))
+    (c.save_entry.ensures.form (ap (λ (r : Records). has_ended r) c.in_ok-put_entry.ensures.records ∙ (c.in_ok-root.ensures.keeps.0).after)) set.0 b.0 b.1 b.2
+    (subst (λ (r : Records). ComesTo g.D.Disk r c.save_entry.new.self.records c.store.new.disk c.save_entry.new.disk (λ was now. SetsCatalog (catalog_bytes c.put_entry.new.self.catalog) was now)) c.in_ok-put_entry.ensures.records set.1))
 
 pub returns-clause-refused : goal.returns-clause-refused
 returns-clause-refused g c =
     if_err_both c.save_entry.result c.save_entry.ensures.removed c.save_entry.ensures.refused (λ e removed refused.
     save_refused g.D.Disk c.args.self.now c.save_entry.new.self c.args.disk.now c.store.new.disk c.save_entry.new.disk c.store.new.records c.put_entry.new.self.catalog c.args.tree c.args.parts.now c.args.name.now
     (record { root = record { page = c.in_ok-root.root.page; slot = c.in_ok-root.root.slot }; nodes = c.count-nodes.result }) e c.store.ensures.still c.in_ok-root.ensures.keeps.0 c.in_ok-root.ensures.keeps.1
-    (λ state at. brought_at g.D.Disk c.args.self.now c.args.disk.now state at c.store.new.records c.store.new.disk c.args.name.now c.args.tree c.args.parts.now c.in_ok-root.root.page c.in_ok-root.root.slot c.count-nodes.result
+    (λ saved state at. brought_at g.D.Disk c.args.self.now c.args.disk.now state at c.store.new.records c.store.new.disk c.args.name.now c.args.tree c.args.parts.now c.in_ok-root.root.page c.in_ok-root.root.slot c.count-nodes.result
     c.requires.new c.requires.chosen.in_order c.count-nodes.ensures c.in_ok-root.ensures.ok)
     c.in_ok-put_entry.ensures.ok c.in_ok-put_entry.ensures.rules
     (c.save_entry.ensures.form (ap (λ (r : Records). has_ended r) c.in_ok-put_entry.ensures.records ∙ (c.in_ok-root.ensures.keeps.0).after))

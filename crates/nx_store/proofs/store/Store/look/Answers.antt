@@ -3,19 +3,20 @@ use Rattle.std.specs.Prelude.{Ok}
 use Rattle.nx_host.proofs.DiskLemmas.{none_still}
 use Rattle.nx_records.proofs.StandLemmas.{if_ok_then, if_err_then}
 use Rattle.nx_script.specs.declared.command.Command.{Command}
-use Rattle.nx_script.specs.declared.command.Command.TheVariants.{Names, Export, Get, Layout, Rules, Bad}
+use Rattle.nx_script.specs.declared.command.Command.TheVariants.{Names, Export, Get, Layout, Rules, Begin, Commit, Bad}
 use Rattle.nx_script.specs.declared.reply.Reply.TheVariants.{Refused}
 use Rattle.nx_script.specs.declared.reply.ReplyError.TheVariants.{Syntax}
 use Rattle.nx_store.specs.Store.{IsApplied, NotApplied}
 use Rattle.nx_store.specs.Staying.{LeavesOthers}
+use Rattle.nx_script.specs.declared.request.Request.TheVariants.{Single}
 use Rattle.nx_store.specs.declared.error.EngineError.{EngineError}
 use Rattle.nx_store.proofs.LookLemmas.{names_answer, rules_answer}
 use Rattle.nx_store.proofs.AtLemmas.{leaves_self}
-use Rattle.nx_store.proofs.ShowLemmas.{still_areas, looked_applied}
+use Rattle.nx_store.proofs.ShowLemmas.{still_areas, looked_applied, on_ok_any}
 use Rattle.nx_store.proofs.StayingLemmas.{unasked_leaves, looked_leaves}
 use Rattle.std.proofs.lemmas.Bool.{false≢true}
 use Rattle.nx_store.specs.Reads.{is_lookup, needs_no_page, ReadsWithin}
-use Rattle.nx_store.proofs.ReadLemmas.{on_ok, other_reads, unread_reads, looked_holds, unasked_holds}
+use Rattle.nx_store.proofs.ReadLemmas.{on_ok, other_reads, unread_reads, looked_holds, unasked_holds, looked_kept}
 use Rattle.nx_store.proofs.store.Store.look.Goals as goal
 
 pub returns-in-Names-clause-applies : goal.returns-in-Names-clause-applies
@@ -86,25 +87,25 @@ returns-in-Checkpoint-clause-applies g c state at told =
     subst (λ (k : Command). IsApplied g.D.Disk c.checkpoint.result state k c.checkpoint.new.self c.args.disk.now c.checkpoint.new.disk) (sym c.in-Checkpoint.is) (c.checkpoint.ensures.applies state at told)
 
 pub returns-in-Names-clause-leaves : goal.returns-in-Names-clause-leaves
-returns-in-Names-clause-leaves g c = unasked_leaves g.D.Disk c.args.command c.args.self.now c.args.disk.now
+returns-in-Names-clause-leaves g c = unasked_leaves g.D.Disk (Single c.args.command) c.args.self.now c.args.disk.now
 
 pub returns-in-Rules-clause-leaves : goal.returns-in-Rules-clause-leaves
-returns-in-Rules-clause-leaves g c = unasked_leaves g.D.Disk c.args.command c.args.self.now c.args.disk.now
+returns-in-Rules-clause-leaves g c = unasked_leaves g.D.Disk (Single c.args.command) c.args.self.now c.args.disk.now
 
 pub returns-in-Bad-clause-leaves : goal.returns-in-Bad-clause-leaves
-returns-in-Bad-clause-leaves g c = unasked_leaves g.D.Disk c.args.command c.args.self.now c.args.disk.now
+returns-in-Bad-clause-leaves g c = unasked_leaves g.D.Disk (Single c.args.command) c.args.self.now c.args.disk.now
 
 pub returns-in-Export-clause-leaves : goal.returns-in-Export-clause-leaves
-returns-in-Export-clause-leaves g c = looked_leaves g.D.Disk c.args.command c.args.self.now c.export.new.self c.args.disk.now c.export.new.disk c.export.ensures.still c.export.ensures.same
+returns-in-Export-clause-leaves g c = looked_leaves g.D.Disk (Single c.args.command) c.args.self.now c.export.new.self c.args.disk.now c.export.new.disk c.export.ensures.still c.export.ensures.same
 
 pub returns-in-Get-clause-leaves : goal.returns-in-Get-clause-leaves
-returns-in-Get-clause-leaves g c = looked_leaves g.D.Disk c.args.command c.args.self.now c.get.new.self c.args.disk.now c.get.new.disk c.get.ensures.still c.get.ensures.same
+returns-in-Get-clause-leaves g c = looked_leaves g.D.Disk (Single c.args.command) c.args.self.now c.get.new.self c.args.disk.now c.get.new.disk c.get.ensures.still c.get.ensures.same
 
 pub returns-in-Layout-clause-leaves : goal.returns-in-Layout-clause-leaves
-returns-in-Layout-clause-leaves g c = looked_leaves g.D.Disk c.args.command c.args.self.now c.layout.new.self c.args.disk.now c.layout.new.disk c.layout.ensures.still c.layout.ensures.same
+returns-in-Layout-clause-leaves g c = looked_leaves g.D.Disk (Single c.args.command) c.args.self.now c.layout.new.self c.args.disk.now c.layout.new.disk c.layout.ensures.still c.layout.ensures.same
 
 pub returns-in-Checkpoint-clause-leaves : goal.returns-in-Checkpoint-clause-leaves
-returns-in-Checkpoint-clause-leaves g c = subst (λ (k : Command). LeavesOthers g.D.Disk k c.args.self.now c.checkpoint.new.self c.args.disk.now c.checkpoint.new.disk) (sym c.in-Checkpoint.is) c.checkpoint.ensures.leaves
+returns-in-Checkpoint-clause-leaves g c = subst (λ (k : Command). LeavesOthers g.D.Disk (Single k) c.args.self.now c.checkpoint.new.self c.args.disk.now c.checkpoint.new.disk) (sym c.in-Checkpoint.is) c.checkpoint.ensures.leaves
 
 pub returns-in-Names-clause-reads : goal.returns-in-Names-clause-reads
 returns-in-Names-clause-reads g c =
@@ -177,3 +178,64 @@ returns-in-Layout-clause-holds g c =
 pub returns-in-Checkpoint-clause-holds : goal.returns-in-Checkpoint-clause-holds
 returns-in-Checkpoint-clause-holds g c =
     c.checkpoint.ensures.holds
+
+pub returns-in-Names-clause-kept : goal.returns-in-Names-clause-kept
+returns-in-Names-clause-kept g c =
+    let runs = c.requires.runs in
+    looked_kept g.D.Disk c.args.self.now c.args.self.now c.args.disk.now c.args.disk.now c.names.result none_still (λ on. leaves_self c.args.self.now) (on_ok_any c.names.result (runs, runs))
+    (if_err_then c.names.result c.names.ensures.err (λ e is. subst (λ (x : EngineError). NotApplied g.D.Disk x c.args.self.now c.args.self.now c.args.disk.now c.args.disk.now) (sym is) (runs, runs)))
+
+pub returns-in-Rules-clause-kept : goal.returns-in-Rules-clause-kept
+returns-in-Rules-clause-kept g c =
+    let runs = c.requires.runs in
+    looked_kept g.D.Disk c.args.self.now c.args.self.now c.args.disk.now c.args.disk.now c.rules.result none_still (λ on. leaves_self c.args.self.now) (on_ok_any c.rules.result (runs, runs))
+    (if_err_then c.rules.result c.rules.ensures.err (λ e is. subst (λ (x : EngineError). NotApplied g.D.Disk x c.args.self.now c.args.self.now c.args.disk.now c.args.disk.now) (sym is) (runs, runs)))
+
+pub returns-in-Export-clause-kept : goal.returns-in-Export-clause-kept
+returns-in-Export-clause-kept g c =
+    looked_kept g.D.Disk c.args.self.now c.export.new.self c.args.disk.now c.export.new.disk c.export.result c.export.ensures.still c.export.ensures.same (if_ok_then c.export.result c.export.ensures.ok (λ reply ok. ok.0)) c.export.ensures.refused
+
+pub returns-in-Get-clause-kept : goal.returns-in-Get-clause-kept
+returns-in-Get-clause-kept g c =
+    looked_kept g.D.Disk c.args.self.now c.get.new.self c.args.disk.now c.get.new.disk c.get.result c.get.ensures.still c.get.ensures.same (if_ok_then c.get.result c.get.ensures.ok (λ reply ok. ok.0)) c.get.ensures.refused
+
+pub returns-in-Layout-clause-kept : goal.returns-in-Layout-clause-kept
+returns-in-Layout-clause-kept g c =
+    looked_kept g.D.Disk c.args.self.now c.layout.new.self c.args.disk.now c.layout.new.disk c.layout.result c.layout.ensures.still c.layout.ensures.same (if_ok_then c.layout.result c.layout.ensures.ok (λ reply ok. ok.0)) c.layout.ensures.refused
+
+pub returns-in-Checkpoint-clause-kept : goal.returns-in-Checkpoint-clause-kept
+returns-in-Checkpoint-clause-kept g c = c.checkpoint.ensures.kept
+
+pub returns-in-Commit-clause-applies : goal.returns-in-Commit-clause-applies
+returns-in-Commit-clause-applies g c state at told =
+    let runs = c.requires.runs in
+    subst (λ (k : Command). IsApplied g.D.Disk (Ok (Refused Syntax)) state k c.args.self.now c.args.disk.now c.args.disk.now) (sym c.in-Commit.is)
+    (looked_applied g.D.Disk Commit (λ is. cc) none_still (λ on. leaves_self c.args.self.now) at told (Ok (Refused Syntax)) ((runs, runs), λ s there. (refl, refl)) tt)
+
+pub returns-in-Begin-clause-applies : goal.returns-in-Begin-clause-applies
+returns-in-Begin-clause-applies g c state at told =
+    let runs = c.requires.runs in
+    subst (λ (k : Command). IsApplied g.D.Disk (Ok (Refused Syntax)) state k c.args.self.now c.args.disk.now c.args.disk.now) (sym c.in-Begin.is)
+    (looked_applied g.D.Disk (Begin c.in-Begin.bare) (λ is. cc) none_still (λ on. leaves_self c.args.self.now) at told (Ok (Refused Syntax)) ((runs, runs), λ s there. (refl, refl)) tt)
+
+pub returns-in-Commit-clause-leaves : goal.returns-in-Commit-clause-leaves
+returns-in-Commit-clause-leaves g c = unasked_leaves g.D.Disk (Single c.args.command) c.args.self.now c.args.disk.now
+
+pub returns-in-Begin-clause-leaves : goal.returns-in-Begin-clause-leaves
+returns-in-Begin-clause-leaves g c = unasked_leaves g.D.Disk (Single c.args.command) c.args.self.now c.args.disk.now
+
+pub returns-in-Commit-clause-reads : goal.returns-in-Commit-clause-reads
+returns-in-Commit-clause-reads g c =
+    unread_reads g.D.Disk c.args.command c.args.self.now c.args.disk.now c.args.disk.now (ap needs_no_page c.in-Commit.is) refl
+
+pub returns-in-Begin-clause-reads : goal.returns-in-Begin-clause-reads
+returns-in-Begin-clause-reads g c =
+    unread_reads g.D.Disk c.args.command c.args.self.now c.args.disk.now c.args.disk.now (ap needs_no_page c.in-Begin.is) refl
+
+pub returns-in-Commit-clause-holds : goal.returns-in-Commit-clause-holds
+returns-in-Commit-clause-holds g c =
+    unasked_holds g.D.Disk c.args.self.now c.args.disk.now
+
+pub returns-in-Begin-clause-holds : goal.returns-in-Begin-clause-holds
+returns-in-Begin-clause-holds g c =
+    unasked_holds g.D.Disk c.args.self.now c.args.disk.now

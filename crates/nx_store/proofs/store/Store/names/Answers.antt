@@ -2,7 +2,7 @@ use Rattle.std.proofs.Common.{◌≡◌, ◌∙◌, map, ap, rules}
 use Rattle.std.specs.Map.Iter.{deref_pair}
 use Rattle.std.proofs.lemmas.Map.Iter.{iter_end}
 use Rattle.nx_script.specs.declared.reply.Reply.TheVariants.{Names}
-use Rattle.nx_script.specs.Field.{by_bytes}
+use Rattle.nx_pyx.specs.DocumentName.{by_bytes}
 use Rattle.nx_store.specs.Told.{line_of}
 use Rattle.nx_store.proofs.ListedLemmas.{lines_more, lines_whole}
 use Rattle.nx_store.proofs.store.Store.names.Goals as goal

@@ -28,7 +28,7 @@ returns-in-Err-save_removed-clause-refused g c =
     c.in-Err-save_removed.error c.remove_document.new.records c.save_removed.new.records c.remove_document.new.disk c.save_removed.new.disk) c.as_slice.ensures c.in-Err-save_removed.ensures.refused))
 
 pub returns-in-Ok-save_removed-clause-ok : goal.returns-in-Ok-save_removed-clause-ok
-returns-in-Ok-save_removed-clause-ok g c state at =
+returns-in-Ok-save_removed-clause-ok g c saved state at =
     let after : Store = record { alloc = c.args.self.now.alloc; records = c.save_removed.new.records; catalog = c.save_removed.new.self } in
     gone_prepared g.D.Disk c.args.self.now c.args.disk.now state at c.args.name.now c.args.entry c.requires.found c.remove_document.new.records after c.remove_document.new.disk c.save_removed.new.disk
     c.in-Ok.ensures.ok

@@ -9,7 +9,7 @@ use Rattle.nx_records.specs.Refusals.{NotStored}
 use Rattle.nx_cuts.specs.Cut.{tree_of}
 use Rattle.nx_matrix.specs.declared.rule.Rule.{Rule}
 use Rattle.nx_catalog.specs.Catalog.{catalog_bytes}
-use Rattle.nx_script.specs.Field.{is_document_name}
+use Rattle.nx_pyx.specs.DocumentName.{is_document_name}
 use Rattle.nx_edit.specs.Removing.{OfEntry}
 use Rattle.nx_edit.specs.Refusals.{edit_error}
 use Rattle.nx_edit.specs.declared.error.EditError.{EditError}
@@ -50,7 +50,7 @@ returns-in-Err-clause-refused g c =
     c.in-Err.error c.make_edit.new.records c.save_entry.new.records c.make_edit.new.disk c.save_entry.new.disk) c.as_slice-2.ensures c.in-Err.ensures.refused))
 
 pub returns-in-Ok-clause-ok : goal.returns-in-Ok-clause-ok
-returns-in-Ok-clause-ok g c state at =
+returns-in-Ok-clause-ok g c saved state at =
     let path = c.args.path.now in
     let e = c.args.edit in
     let k = (settings_of c.args.self.now.records).k in

@@ -16,7 +16,7 @@ returns-in_err-save_rule-clause-refused g c =
     (rule_unprepared g.D.Disk c.args.self.now after c.args.disk.now c.save_rule.new.disk c.args.rule.now c.requires.runs c.requires.labels c.in_err-save_rule.ensures.err c.in_err-save_rule.field-0.0 c.in_err-save_rule.ensures.refused)
 
 pub returns-clause-ok : goal.returns-clause-ok
-returns-clause-ok g c state at =
+returns-clause-ok g c saved state at =
     let after : Store = record { alloc = c.args.self.now.alloc; records = c.save_rule.new.records; catalog = c.save_rule.new.self } in
     rule_prepared g.D.Disk c.args.self.now c.args.disk.now state at after c.save_rule.new.disk c.args.rule.now c.save_rule.ensures.documents c.in_ok-save_rule.ensures.rules
     (c.in_ok-save_rule.ensures.form at.catalog.labels c.requires.labels) c.in_ok-save_rule.ensures.ok

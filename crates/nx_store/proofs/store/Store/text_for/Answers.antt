@@ -1,49 +1,38 @@
-use Rattle.std.proofs.Common.{ℕ, List, sym, ◌∙◌}
-use Rattle.std.specs.Prelude.{Result}
-use Rattle.std.proofs.lemmas.Result.{err_from_is_err_and}
-use Rattle.nx_store.specs.Loading.{IsAppliedWithText}
-use Rattle.nx_store.specs.declared.error.EngineError.{EngineError}
-use Rattle.nx_store.proofs.ShowLemmas.{handed}
+use Rattle.std.proofs.Common.{◌≡◌, ℕ, List, sym, subst, ◌∙◌}
+use Rattle.nx_script.specs.declared.command.Command.{Command}
+use Rattle.nx_script.specs.declared.request.Request.{Request}
+use Rattle.nx_script.specs.declared.request.Request.TheVariants.{Single}
+use Rattle.nx_store.specs.Changing.{IsCarriedWithText}
+use Rattle.nx_store.specs.Reads.{ReadsWithin}
+use Rattle.nx_store.specs.Staying.{LeavesOthers}
 use Rattle.nx_store.proofs.StayingLemmas.{unasked_leaves}
-use Rattle.std.proofs.lemmas.Bool.{false≢true}
-use Rattle.nx_store.proofs.ReadLemmas.{no_lookup, changes_unlike, other_reads, ended_reads}
+use Rattle.nx_store.proofs.ReadLemmas.{ended_reads}
 use Rattle.nx_store.proofs.store.Store.text_for.Goals as goal
 
-pub returns-then-may_change-clause-writes : goal.returns-then-may_change-clause-writes
-returns-then-may_change-clause-writes g c state at told = (c.in_ok-text.field-0-0, c.in_ok-text.ensures.ok.1, c.in_ok-text.ensures.applies state at told)
-
-pub returns-in_err-text-clause-writes : goal.returns-in_err-text-clause-writes
-returns-in_err-text-clause-writes g c state at told =
-    handed c.from_residual.result (λ (r : Result (List ℕ) EngineError). IsAppliedWithText g.D.Disk r state c.args.command c.change.new.self c.args.disk.now c.change.new.disk)
-    c.in_err-text.field-0.0 (err_from_is_err_and c.from_residual.result c.from_residual.ensures.1) (c.in_err-text.ensures.applies state at told)
-
 pub returns-then-is_ended-clause-leaves : goal.returns-then-is_ended-clause-leaves
-returns-then-is_ended-clause-leaves g c = unasked_leaves g.D.Disk c.args.command c.args.self.now c.args.disk.now
+returns-then-is_ended-clause-leaves g c = unasked_leaves g.D.Disk c.args.request c.args.self.now c.args.disk.now
 
 pub returns-then-is_ended-clause-reads : goal.returns-then-is_ended-clause-reads
-returns-then-is_ended-clause-reads g c =
-    ended_reads g.D.Disk c.args.command c.args.self.now c.args.disk.now c.args.disk.now (sym c.is_ended.ensures ∙ c.if-is_ended.true)
+returns-then-is_ended-clause-reads g c command is =
+    ended_reads g.D.Disk command c.args.self.now c.args.disk.now c.args.disk.now (sym c.is_ended.ensures ∙ c.if-is_ended.true)
 
-pub returns-then-may_change-clause-reads : goal.returns-then-may_change-clause-reads
-returns-then-may_change-clause-reads g c =
-    other_reads g.D.Disk c.args.command c.args.self.now c.args.disk.now c.change.new.disk (no_lookup c.args.command (sym c.may_change.ensures.answer ∙ c.if-may_change.true))
+pub returns-in-Single-clause-writes : goal.returns-in-Single-clause-writes
+returns-in-Single-clause-writes g c state at told =
+    subst (λ (q : Request). IsCarriedWithText g.D.Disk c.text_of.result state q c.args.self.now c.text_of.new.self c.args.disk.now c.text_of.new.disk) (sym c.in-Single.is) (c.text_of.ensures.writes state at told)
 
-pub returns-then-may_change-clause-unread : goal.returns-then-may_change-clause-unread
-returns-then-may_change-clause-unread g c none =
-    changes_unlike c.args.command (sym c.may_change.ensures.answer ∙ c.if-may_change.true) none
+pub returns-in-Single-clause-leaves : goal.returns-in-Single-clause-leaves
+returns-in-Single-clause-leaves g c =
+    subst (λ (q : Request). LeavesOthers g.D.Disk q c.args.self.now c.text_of.new.self c.args.disk.now c.text_of.new.disk) (sym c.in-Single.is) c.text_of.ensures.leaves
 
-pub returns-then-may_change-clause-holds : goal.returns-then-may_change-clause-holds
-returns-then-may_change-clause-holds g c quiet =
-    absurd (false≢true (sym quiet ∙ sym c.may_change.ensures.answer ∙ c.if-may_change.true))
+pub returns-in-Single-clause-reads : goal.returns-in-Single-clause-reads
+returns-in-Single-clause-reads g c command is =
+    let same : c.in-Single.command ≡ command = cc (c.in-Single.is, is) in
+    subst (λ (k : Command). ReadsWithin g.D.Disk k c.args.self.now c.args.disk.now c.text_of.new.disk) same c.text_of.ensures.reads
 
-pub returns-in_err-text-clause-reads : goal.returns-in_err-text-clause-reads
-returns-in_err-text-clause-reads g c =
-    other_reads g.D.Disk c.args.command c.args.self.now c.args.disk.now c.change.new.disk (no_lookup c.args.command (sym c.may_change.ensures.answer ∙ c.if-may_change.true))
+pub returns-in-Transaction-clause-writes : goal.returns-in-Transaction-clause-writes
+returns-in-Transaction-clause-writes g c state at told =
+    subst (λ (q : Request). IsCarriedWithText g.D.Disk c.transact.result state q c.args.self.now c.transact.new.self c.args.disk.now c.transact.new.disk) (sym c.in-Transaction.is) (c.transact.ensures.transacts state at told)
 
-pub returns-in_err-text-clause-unread : goal.returns-in_err-text-clause-unread
-returns-in_err-text-clause-unread g c none =
-    changes_unlike c.args.command (sym c.may_change.ensures.answer ∙ c.if-may_change.true) none
-
-pub returns-in_err-text-clause-holds : goal.returns-in_err-text-clause-holds
-returns-in_err-text-clause-holds g c quiet =
-    absurd (false≢true (sym quiet ∙ sym c.may_change.ensures.answer ∙ c.if-may_change.true))
+pub returns-in-Transaction-clause-leaves : goal.returns-in-Transaction-clause-leaves
+returns-in-Transaction-clause-leaves g c =
+    subst (λ (q : Request). LeavesOthers g.D.Disk q c.args.self.now c.transact.new.self c.args.disk.now c.transact.new.disk) (sym c.in-Transaction.is) c.transact.ensures.leaves
