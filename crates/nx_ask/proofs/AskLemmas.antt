@@ -2,7 +2,7 @@
 use Rattle.std.proofs.Common.{◌≡◌, true, false, Bool, refl, sym, subst}
 use Rattle.std.specs.Bool.{MatchBool}
 use Rattle.nx_script.specs.declared.command.Command.{Command}
-use Rattle.nx_script.specs.declared.command.Command.TheVariants.{Load, Discard, Names, Export, Insert, Delete, Retext, Get, Layout, SetRule, Rules, Checkpoint, Bad}
+use Rattle.nx_script.specs.declared.command.Command.TheVariants.{Load, Discard, Rename, Names, Export, Insert, Delete, Retext, Get, Layout, SetRule, Rules, Checkpoint, Begin, Commit, Bad}
 use Rattle.nx_script.specs.declared.reply.Reply.{Reply}
 use Rattle.nx_script.specs.declared.reply.Reply.TheVariants.{Refused}
 use Rattle.nx_script.specs.declared.reply.ReplyError.TheVariants.{Syntax}
@@ -21,11 +21,14 @@ question_keeps Rules is = refl
 question_keeps Bad is = refl
 question_keeps (Load name body) is = cc
 question_keeps (Discard name) is = cc
+question_keeps (Rename old new) is = cc
 question_keeps (Insert name path said) is = cc
 question_keeps (Delete name path) is = cc
 question_keeps (Retext name path said) is = cc
 question_keeps (SetRule rule) is = cc
 question_keeps Checkpoint is = refl
+question_keeps (Begin bare) is = refl
+question_keeps Commit is = refl
 
 -- so the state behind it is the one before it
 pub state_stays : (state next : State) (command : Command) (r : Reply) → is_question command ≡ true → Step state command r next → next ≡ state

@@ -50,11 +50,26 @@ one_page_more bytes new n pages first adds =
       ];
     }
 
+-- page 0 alone
+pub first_page : (none new page : List ℕ) (pages : Pages) → none ≡ [] → (new ≡ none ++ page) × (length page ≡ 8192) → pages 0 ≡ Some page → AreFirstPages new 1 pages
+first_page none new page pages empty added here =
+    one_page_more none new 0 pages (no_pages none pages empty) (record { added = page; there = here; long = added.1; behind = added.0 })
+
 -- over a disk that was asked alone the log is followed on
 pub in_step_on : {D : Type 0} {d : Ghosts D} {wal now : Wal} {before after : D} {was : Image} → IsStill d before after → now ≡ wal → IsInStep d wal before was → IsInStep d now after was
 in_step_on {was = was} still same step = record {
   settled = settled_still still step.settled;
   follows = subst (λ (w : Wal). Follows w was.log) (sym same) step.follows;
+}
+
+-- ... and was followed before
+pub in_step_back : {D : Type 0} {d : Ghosts D} {wal now : Wal} {before after : D} {was : Image} → IsStill d before after → now ≡ wal → IsInStep d now after was → IsInStep d wal before was
+in_step_back {was = was} still same step = record {
+  settled = record {
+    here = sym still.contents_stay ∙ step.settled.here;
+    only = λ i left. step.settled.only i ((still.images_stay i).1 left);
+  };
+  follows = subst (λ (w : Wal). Follows w was.log) same step.follows;
 }
 
 -- a count that rose later rose

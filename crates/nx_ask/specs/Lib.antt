@@ -4,3 +4,4 @@ pub mod Snapshot
 pub mod Asked
 pub mod Errors
 pub mod Cut
+pub mod Laws

@@ -1,11 +1,13 @@
 -- What a snapshot has of a store, and why none is taken.
-use Rattle.std.specs.Prelude.{◌≡◌, ℕ, ◌+◌, ◌*◌, ◌/◌, ◌≤◌, Some, length}
+use Rattle.std.specs.Prelude.{◌≡◌, ℕ, ◌+◌, ◌*◌, ◌/◌, ◌<◌, ◌≤◌, max, None, Some, length}
 use Rattle.nx_host.specs.Disk.{Image, Rose}
 use Rattle.nx_host.specs.declared.disk.Disk.{Ghosts}
 use Rattle.nx_host.specs.Still.{IsSettled}
 use Rattle.nx_numbers.specs.Sizes.{entry_size}
+use Rattle.nx_holdings.specs.declared.header.Header.{Header}
+use Rattle.nx_holdings.specs.Header.{header_bytes, IsInRange}
 use Rattle.nx_records.specs.Records.{HasHeader}
-use Rattle.nx_records.specs.Words.{replay}
+use Rattle.nx_records.specs.Words.{Pages, replay}
 use Rattle.nx_wal.specs.Wal.{IsInStep, IsPageCount}
 use Rattle.nx_wal.specs.declared.wal.Wal.{Wal}
 use Rattle.nx_wal.specs.declared.error.WalError.{WalError}
@@ -21,14 +23,34 @@ use Rattle.nx_ask.specs.declared.error.AskError.TheVariants as error
 abbrev pub snapshot_image : Snapshot → Image
 snapshot_image snapshot = pages_alone snapshot.bytes.items
 
--- A snapshot has the pages that the image stands for, each as it is there, and no others.
-abbrev pub HasPagesOf : Snapshot → Image → Type 0
-HasPagesOf snapshot was = replay (snapshot_image snapshot) ≡ replay was
+-- Page 0 is a header, by which there are so many pages.
+pub record SaysPages (number : ℕ) (pages : Pages) : Type 0 where
+  pub head : Header
+  pub here : pages 0 ≡ Some (header_bytes head)
+  pub range : IsInRange head
+  pub number_is : head.pages ≡ number
 
--- From a count of reads to another no more came than taking a snapshot of an image asks for: three for each page with its number that the area of the log has room for, four more for the log's end and
--- the mark of page 0, and one for each number up to that of the greatest page.
-abbrev pub ReadsSnapshot : Image → ℕ → ℕ → Type 0
-ReadsSnapshot was before after = (count : ℕ) → IsPageCount count (replay was) → after ≤ before + (3 * (length was.log / entry_size + 1) + 1) + count
+-- A snapshot has the pages of the image below the header's number, each as it is there, and no others.
+pub record HasPagesOf (snapshot : Snapshot) (was : Image) : Type 0 where
+  pub number : ℕ
+  pub said : SaysPages number (replay was)
+  pub below : (p : ℕ) → p < number → replay (snapshot_image snapshot) p ≡ replay was p
+  pub none_from : (p : ℕ) → number ≤ p → replay (snapshot_image snapshot) p ≡ None
+
+-- the reads of opening a log: three for each page with its number that the area of the log has room for, three more for the log's end, and the mark of page 0
+abbrev pub log_reads : Image → ℕ
+log_reads was = 3 * (length was.log / entry_size + 1) + 1
+
+-- From a count of reads to another no more came than taking a snapshot of an image asks for: those of opening its log, and one for each page below the header's number, none past the
+-- greatest page that is there.
+pub record ReadsSnapshot (was : Image) (before after : ℕ) : Type 0 where
+  pub below : (number : ℕ) → SaysPages number (replay was) → after ≤ before + log_reads was + number
+  pub there : (count : ℕ) → IsPageCount count (replay was) → after ≤ before + log_reads was + count
+
+-- ... but for opening its log; page 0 is read in any case
+pub record ReadsPages (was : Image) (before after : ℕ) : Type 0 where
+  pub below : (number : ℕ) → SaysPages number (replay was) → after ≤ before + number
+  pub there : (count : ℕ) → IsPageCount count (replay was) → after ≤ before + max 1 count
 
 -- the image stands for no state
 abbrev pub HasNoState : Image → Type 0

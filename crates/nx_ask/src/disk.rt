@@ -1,5 +1,5 @@
 // The disk that a worker has of its own.
-ghost use Rattle.std.specs.Prelude.{◌≡◌, Some, length, take};
+ghost use Rattle.std.specs.Prelude.{◌≡◌, Some, None, length, take};
 ghost use Rattle.std.proofs.Common.{refl};
 ghost use Rattle.nx_host.specs.Disk.{AreBytes, given_at};
 ghost use Rattle.nx_ask.specs.PagesAlone.{pages_alone, nothing_beside, AlwaysStood, seen_contents, seen_told, seen_bytes, none_are_bytes, no_bytes_seen};
@@ -7,7 +7,7 @@ ghost use Rattle.nx_ask.specs.PagesAlone.{pages_alone, nothing_beside, AlwaysSto
 use nx_host::{Area, Disk, Failed};
 
 /// A disk whose pages are those of a snapshot, and whose log is empty. It is for reading alone: a write fails and leaves
-/// it as it is.
+/// it as it is, and nothing needs to be renewed.
 #[derive(Drop)]
 pub struct SnapshotDisk<'a> {
     pages: &'a [u8],
@@ -43,6 +43,8 @@ impl<'a> Disk for SnapshotDisk<'a> {
     ghost faults = { λ disk. disk.faults };
 
     ghost reads = { λ disk. disk.reads };
+
+    ghost renewed = { λ _. None };
 
     ghost contents_may_stay = { λ disk i is. seen_contents (pages_alone disk.pages.now) i is };
 
@@ -83,6 +85,10 @@ impl<'a> Disk for SnapshotDisk<'a> {
     }
 
     fn sync(&mut self, _area: Area) -> Result<(), Failed> {
+        Ok(())
+    }
+
+    fn renew(&mut self, _area: Area, _at: u64) -> Result<(), Failed> {
         Ok(())
     }
 }

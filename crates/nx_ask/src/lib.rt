@@ -6,6 +6,7 @@ mod all;
 mod cut;
 mod disk;
 mod error;
+pub mod laws;
 mod question;
 mod reading;
 mod row;

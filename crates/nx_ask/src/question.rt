@@ -33,10 +33,13 @@ pub fn copy_question(alloc: Global, question: &Command) -> Result<Option<Command
         }
         Command::Load { .. }
         | Command::Discard { .. }
+        | Command::Rename { .. }
         | Command::Insert { .. }
         | Command::Delete { .. }
         | Command::Retext { .. }
         | Command::SetRule { .. }
-        | Command::Checkpoint => Ok(None),
+        | Command::Checkpoint
+        | Command::Begin { .. }
+        | Command::Commit => Ok(None),
     }
 }

@@ -72,7 +72,7 @@ fn open_store<D: Disk>(alloc: Global, disk: &mut D) -> Result<Store, AskError>
     ensures ok { IfOk result (λ store. (was : Image) → IsSettled D.Disk disk.old was → (state : State) → Recovers was (Some state) → IsAt D.Disk store disk.new state) }
     ensures refused { IfErr result (λ e. (was : Image) → IsSettled D.Disk disk.old was → NotAsked (λ state. Recovers was (Some state)) e) }
 {
-    match Store::open(alloc, disk) {
+    match Store::open_to_read(alloc, disk) {
         Ok(store) => Ok(store),
         Err(error) => Err(asked_error(error)),
     }

@@ -13,3 +13,5 @@ mod runs;
 mod sharing;
 #[cfg(test)]
 mod stores;
+#[cfg(test)]
+mod tails;

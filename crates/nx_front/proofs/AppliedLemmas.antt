@@ -174,6 +174,7 @@ module _ {D : Type 0} {d : Ghosts D} {a b : D} where
     from = λ was settled told. elim (receives.from was settled told) [
       | inl from ↦ inl (record {
         opened = from.opened;
+        whole = from.whole;
         taken = from.taken;
         takes = from.takes;
         few = from.few;
@@ -292,6 +293,7 @@ module _ {D : Type 0} {d : Ghosts D} {a b c : D} (result : Result (Unit {0}) Shi
         from = λ was settled told. elim (receives.from was settled (told_there told)) [
           | inl from ↦ inl (record {
             opened = from.opened;
+            whole = from.whole;
             taken = from.taken;
             takes = subst (λ (left : Option (List ℕ)). Takes from.taken (d.beside a).input left) (sym gives.input_stays) from.takes;
             few = from.few;
@@ -374,8 +376,11 @@ module _ {D : Type 0} {d : Ghosts D} {a b : D} (was : Image) (input : List ℕ) 
   untaken_ends : (held : Option State) → Recovers was held → (status : Status) → IsUntaken was status → IsApplyingCaused d status a b → EndsWell status
   untaken_ends None none NotAStore (no_header, (p, some)) cause = absurd (let gone : IsSome {T = List ℕ} None = subst (λ (o : Option (List ℕ)). IsSome o) (none p) some in cc gone)
   untaken_ends (Some state) stands NotAStore (no_header, page) cause = absurd (no_header (states_are_whole.mark was state stands))
-  untaken_ends None none (Damaged page) (mark, wrong) cause = absurd (let gone : None ≡ Some wrong.bytes = sym (none 0) ∙ wrong.there in cc gone)
-  untaken_ends (Some state) stands (Damaged page) (mark, wrong) cause = absurd (states_are_whole.header was state page stands wrong)
+  untaken_ends None none (Damaged page) ((bytes, there, begins), shows) cause = absurd (let gone : None ≡ Some bytes = sym (none 0) ∙ there in cc gone)
+  untaken_ends (Some state) stands (Damaged page) (mark, shows) cause = absurd (elim shows [
+    | inl wrong ↦ states_are_whole.header was state page stands wrong
+    | inr lost ↦ states_are_whole.lost was state page stands lost
+  ])
   untaken_ends held recovers DiskFault why cause = absurd (calm.disk cause)
   untaken_ends held recovers NoMemory why cause = tt
   untaken_ends held recovers Done why cause = absurd why

@@ -1,11 +1,11 @@
 -- What holds of replies to questions of a script, apart from the code; and how a run of them ends where all is well.
-use Rattle.std.proofs.Common.{◌≡◌, ◌⊎◌, inl, inr, false, List, [], ◌∷◌, Option, None, Some, refl, sym, ap, ap₂, ◌∙◌, subst}
+use Rattle.std.proofs.Common.{◌≡◌, ◌⊎◌, inl, inr, false, List, [], ◌∷◌, map, Option, None, Some, refl, sym, ap, ap₂, ◌∙◌, subst}
 use Rattle.std.specs.Option.{MatchOption}
 use Rattle.std.specs.List.{AllZip, flat_map}
 use Rattle.std.proofs.lemmas.Bool.{false≢true}
 use Rattle.nx_host.specs.declared.disk.Disk.{Ghosts}
 use Rattle.nx_script.specs.declared.command.Command.{Command}
-use Rattle.nx_script.specs.declared.command.Command.TheVariants.{Load, Discard, Names, Export, Insert, Delete, Retext, Get, Layout, SetRule, Rules, Checkpoint, Bad}
+use Rattle.nx_script.specs.declared.command.Command.TheVariants.{Load, Discard, Rename, Names, Export, Insert, Delete, Retext, Get, Layout, SetRule, Rules, Checkpoint, Begin, Commit, Bad}
 use Rattle.nx_script.specs.declared.reply.Reply.{Reply}
 use Rattle.nx_script.specs.declared.reply.ReplyError.{ReplyError}
 use Rattle.nx_script.specs.Reply.{reply_text}
@@ -16,7 +16,7 @@ use Rattle.nx_steps.specs.Refusal.{refusal}
 use Rattle.nx_ask.specs.Asked.{Asked}
 use Rattle.nx_filters.specs.declared.status.Status.{Status}
 use Rattle.nx_front.specs.Serving.{CompletesServing}
-use Rattle.nx_front.specs.Asking.{EndsAsking, Asks, HasOneAskedText}
+use Rattle.nx_front.specs.Asking.{as_question, EndsAsking, Asks, HasOneAskedText}
 use Rattle.nx_front.proofs.ServingLaws.{ends_well, finds_none}
 
 -- a refusal, or an effect, is one reply
@@ -46,11 +46,14 @@ one_reply state Rules r r' one other =
 one_reply state Bad r r' one other = one.0 ∙ sym other.0
 one_reply state (Load name body) r r' one other = one ∙ sym other
 one_reply state (Discard name) r r' one other = one ∙ sym other
+one_reply state (Rename old new) r r' one other = one ∙ sym other
 one_reply state (Insert name path said) r r' one other = one ∙ sym other
 one_reply state (Delete name path) r r' one other = one ∙ sym other
 one_reply state (Retext name path said) r r' one other = one ∙ sym other
 one_reply state (SetRule rule) r r' one other = one ∙ sym other
 one_reply state Checkpoint r r' one other = one ∙ sym other
+one_reply state (Begin bare) r r' one other = one ∙ sym other
+one_reply state Commit r r' one other = one ∙ sym other
 
 same_replies : (state : State) (commands : List Command) (rs rs' : List Reply) → AllZip (Asked state) commands rs → AllZip (Asked state) commands rs' → rs ≡ rs'
 same_replies state [] [] [] one other = refl
@@ -62,8 +65,8 @@ same_replies state (command ∷ commands) (r ∷ rs) (r' ∷ rs') one other =
     ap₂ (λ (x : Reply) (xs : List Reply). x ∷ xs) (one_reply state command r r' one.0 other.0) (same_replies state commands rs rs' one.1 other.1)
 
 pub one_asked_text : HasOneAskedText
-one_asked_text state commands one other asked asked' =
-    asked.text_is ∙ ap (flat_map reply_text) (same_replies state commands asked.replies asked'.replies asked.asked asked'.asked) ∙ sym asked'.text_is
+one_asked_text state requests one other asked asked' =
+    asked.text_is ∙ ap (flat_map reply_text) (same_replies state (map as_question requests) asked.replies asked'.replies asked.asked asked'.asked) ∙ sym asked'.text_is
 
 module _ {D : Type 0} {d : Ghosts D} {a b : D} where
   -- how such a run ends where all is well
@@ -72,8 +75,8 @@ module _ {D : Type 0} {d : Ghosts D} {a b : D} where
     store = λ was input state calm recovers.
         let from = asks.from was state calm.settled recovers in
         ends_well status was input calm asks.cause (
-          λ is. subst (λ (s : Status). EndsAsking from.commands from.text from.taken s (d.beside a) (d.beside b)) is from.ends,
-          λ page is. subst (λ (s : Status). EndsAsking from.commands from.text from.taken s (d.beside a) (d.beside b)) is from.ends,
+          λ is. subst (λ (s : Status). EndsAsking from.requests from.text from.taken s (d.beside a) (d.beside b)) is from.ends,
+          λ page is. subst (λ (s : Status). EndsAsking from.requests from.text from.taken s (d.beside a) (d.beside b)) is from.ends,
         );
     no_store = λ was input calm none. finds_none status was input calm asks.cause (asks.no_header was calm.settled none).0;
   }

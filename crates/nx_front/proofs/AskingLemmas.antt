@@ -1,7 +1,8 @@
 -- A run of questions over a snapshot: batches that came, what is answered of them, and how it ends.
-use Rattle.std.proofs.Common.{◌≡◌, ℕ, ◌+◌, ◌*◌, List, [], ◌++◌, length, Option, Some, refl, sym, ap, ap₂, ◌∙◌, subst, arith, length-append}
-use Rattle.std.specs.List.{flat_map}
+use Rattle.std.proofs.Common.{◌≡◌, ℕ, ◌+◌, ◌*◌, List, [], ◌++◌, map, length, Option, Some, refl, sym, ap, ap₂, ◌∙◌, subst, arith, length-append}
+use Rattle.std.specs.List.{AllZip, flat_map}
 use Rattle.std.proofs.lemmas.Grind.{flat_map-append}
+use Rattle.std.proofs.lemmas.List.{map-append, length-map}
 use Rattle.nx_host.specs.declared.disk.Disk.{Ghosts}
 use Rattle.nx_host.specs.Disk.{Image, Beside, Keeps}
 use Rattle.nx_host.specs.Host.{Takes, IsAtEnd, Appends}
@@ -11,19 +12,21 @@ use Rattle.nx_host.specs.Time.{Elapses, elapsed_then, elapsed_weaker, none_elaps
 use Rattle.nx_host.proofs.DiskLemmas.{keeps_self, none_still}
 use Rattle.nx_host.proofs.OutputLemmas.{takes_nothing, appends_then}
 use Rattle.nx_records.specs.Records.{HasHeader}
-use Rattle.nx_replay.specs.Log.{Pages}
 use Rattle.nx_script.specs.declared.command.Command.{Command}
-use Rattle.nx_script.specs.declared.script.Script.{Script}
-use Rattle.nx_script.specs.Script.{HasGivenIn, EndsIn}
+use Rattle.nx_script.specs.declared.reply.Reply.{Reply}
+use Rattle.nx_script.specs.declared.request.Request.{Request}
+use Rattle.nx_script.specs.declared.requests.Requests.{Requests}
+use Rattle.nx_script.specs.Requests.{HasGivenRequestsIn, EndsInRequests}
 use Rattle.nx_script.specs.Reply.{reply_text}
 use Rattle.nx_state.specs.State.{State}
-use Rattle.nx_state.specs.Stands.{Stands, Recovers}
+use Rattle.nx_state.specs.Stands.{Recovers}
 use Rattle.nx_ask.specs.declared.error.AskError.{AskError}
 use Rattle.nx_ask.specs.declared.error.AskError.TheVariants as asking
 use Rattle.nx_ask.specs.declared.snapshot.Snapshot.{Snapshot}
 use Rattle.nx_ask.specs.Asked.{Asked, IsSnapshotOf}
 use Rattle.nx_ask.specs.Snapshot.{HasPagesOf, ReadsSnapshot, NoSnapshot}
 use Rattle.nx_ask.proofs.RowLemmas.{zip_joined}
+use Rattle.nx_ask.proofs.SnapshotLemmas.{snapshot_stands}
 use Rattle.nx_filters.specs.declared.status.Status.{Status}
 use Rattle.nx_filters.specs.declared.status.Status.TheVariants.{Done, Usage, Refused, DiskFault, ReadFault, WriteFault, NoMemory, NotAStore, Damaged, TooMuch}
 use Rattle.nx_filters.specs.Outcome.{EndsWhole}
@@ -31,7 +34,7 @@ use Rattle.nx_filters.proofs.OutcomeLemmas.{kept_appends, rose_since}
 use Rattle.nx_front.specs.Serving.{AreFirst, IsCaused, EndsWithoutHeader}
 use Rattle.nx_front.specs.Conversation.{IsEnded}
 use Rattle.nx_front.specs.Finding.{ShowsPart}
-use Rattle.nx_front.specs.Asking.{batch_size, AreBatches, IsAskedText, EndsAsking, AsksFrom, GivesBatches, Asks}
+use Rattle.nx_front.specs.Asking.{batch_size, as_question, AreBatches, IsAskedText, EndsAsking, AsksFrom, GivesBatches, Asks}
 use Rattle.nx_front.specs.Batches.{StopsBatch, AreAnswers, StopsAnswering, AnswersBatch, BreaksOff, LeavesBatch, HasAsked, IsAsking, AsksAll, status_of_asking}
 use Rattle.nx_front.proofs.ConversationLemmas.{first_given, first_of, first_none, few, takes_after, appends_after, whole_after, few_nothing, none_goes, goes_then, leaves_goes, still_goes, counts_still}
 use Rattle.nx_front.proofs.FindingLemmas.{images_none, images_still, images_beside, images_then, keeps_same, part_longer, part_behind, part_kept}
@@ -42,9 +45,9 @@ use Rattle.nx_front.proofs.ServingLaws.{serving_together}
 one_batch_more : (count size all : ℕ) → all ≡ batch_size * count + size → size ≡ batch_size → all ≡ batch_size * (count + 1)
 one_batch_more count size all sum whole = omega (arith, sum, whole)
 
-batches_more : (commands batch : List Command) → AreBatches commands → length batch ≡ batch_size → AreBatches (commands ++ batch)
-batches_more commands batch (count, are) whole =
-    (count + 1, one_batch_more count (length batch) (length (commands ++ batch)) (length-append commands batch ∙ ap (λ (n : ℕ). n + length batch) are) whole)
+batches_more : (requests batch : List Request) → AreBatches requests → length batch ≡ batch_size → AreBatches (requests ++ batch)
+batches_more requests batch (count, are) whole =
+    (count + 1, one_batch_more count (length batch) (length (requests ++ batch)) (length-append requests batch ∙ ap (λ (n : ℕ). n + length batch) are) whole)
 
 -- What whole batches gave:
 
@@ -58,9 +61,9 @@ gives_after : (a b c : Option (List ℕ)) → Keeps a b → GivesBatches b c →
 gives_after a b c kept gives =
     record { replies = gives.replies; count = gives.count; whole = gives.whole; gave = appends_after (flat_map reply_text gives.replies) a b c kept gives.gave }
 
-gives_batch : {snapshot : Snapshot} {batch : List Command} {text : List ℕ} (old now next : Option (List ℕ)) → GivesBatches old now → AreAnswers snapshot batch text → length batch ≡ batch_size →
+gives_batch : {snapshot : Snapshot} {text : List ℕ} (batch : List Request) (old now next : Option (List ℕ)) → GivesBatches old now → AreAnswers snapshot (map as_question batch) text → length batch ≡ batch_size →
     Appends text now next → GivesBatches old next
-gives_batch {batch = batch} {text = text} old now next gives answers full gave =
+gives_batch {text = text} batch old now next gives answers full gave =
     let joined : flat_map reply_text (gives.replies ++ answers.replies) ≡ flat_map reply_text gives.replies ++ flat_map reply_text answers.replies =
     flat_map-append reply_text gives.replies answers.replies in
     let here : Appends (flat_map reply_text answers.replies) now next = subst (λ (t : List ℕ). Appends t now next) answers.text_is gave in
@@ -68,22 +71,23 @@ gives_batch {batch = batch} {text = text} old now next gives answers full gave =
       replies = gives.replies ++ answers.replies;
       count = gives.count + 1;
       whole = one_batch_more gives.count (length answers.replies) (length (gives.replies ++ answers.replies))
-          (length-append gives.replies answers.replies ∙ ap (λ (n : ℕ). n + length answers.replies) gives.whole) (answers.asked.0 ∙ full);
+          (length-append gives.replies answers.replies ∙ ap (λ (n : ℕ). n + length answers.replies) gives.whole) (answers.asked.0 ∙ length-map batch as_question ∙ full);
       gave = subst (λ (t : List ℕ). Appends t old next) (sym joined) (appends_then (flat_map reply_text gives.replies) (flat_map reply_text answers.replies) old now next gives.gave here);
     }
 
 -- Texts of replies:
 
-asked_text : {snapshot : Snapshot} {batch : List Command} {text : List ℕ} (state : State) → IsSnapshotOf snapshot state → AreAnswers snapshot batch text → IsAskedText state batch text
+asked_text : {snapshot : Snapshot} {batch : List Request} {text : List ℕ} (state : State) → IsSnapshotOf snapshot state → AreAnswers snapshot (map as_question batch) text → IsAskedText state batch text
 asked_text state is answers = record { replies = answers.replies; asked = answers.asked.1 state is; text_is = answers.text_is }
 
 asked_none : (state : State) → IsAskedText state [] []
 asked_none state = record { replies = []; asked = tt; text_is = refl }
 
-asked_joined : (state : State) (commands batch : List Command) (text more : List ℕ) → IsAskedText state commands text → IsAskedText state batch more → IsAskedText state (commands ++ batch) (text ++ more)
-asked_joined state commands batch text more one other = record {
+asked_joined : (state : State) (requests batch : List Request) (text more : List ℕ) → IsAskedText state requests text → IsAskedText state batch more → IsAskedText state (requests ++ batch) (text ++ more)
+asked_joined state requests batch text more one other = record {
   replies = one.replies ++ other.replies;
-  asked = zip_joined (Asked state) commands batch one.replies other.replies one.asked other.asked;
+  asked = subst (λ (questions : List Command). AllZip (Asked state) questions (one.replies ++ other.replies)) (sym (map-append as_question requests batch))
+      (zip_joined (Asked state) (map as_question requests) (map as_question batch) one.replies other.replies one.asked other.asked);
   text_is = ap₂ (λ (xs ys : List ℕ). xs ++ ys) one.text_is other.text_is ∙ sym (flat_map-append reply_text one.replies other.replies);
 }
 
@@ -96,7 +100,7 @@ module _ {D : Type 0} {d : Ghosts D} where
       record { text = []; replies = asked_none state; gave = kept_appends (d.beside a).output (d.beside a).output (keeps_self (d.beside a).output); time = none_elapsed }
 
   -- more was taken of the input
-  has_taken : {state : State} {commands : List Command} {first now mid : D} → HasAsked d state commands first now → TakesAlone d now mid → HasAsked d state commands first mid
+  has_taken : {state : State} {requests : List Request} {first now mid : D} → HasAsked d state requests first now → TakesAlone d now mid → HasAsked d state requests first mid
   has_taken {first = first} {now = now} asked takes = record {
     text = asked.text;
     replies = asked.replies;
@@ -105,41 +109,41 @@ module _ {D : Type 0} {d : Ghosts D} where
   }
 
   -- what stood while more was given
-  time_more : {state : State} {commands : List Command} {first now next : D} (text : List ℕ) (asked : HasAsked d state commands first now) → GivesAlone d text now next →
+  time_more : {state : State} {requests : List Request} {first now next : D} (text : List ℕ) (asked : HasAsked d state requests first now) → GivesAlone d text now next →
       Elapses d.moment d.stood_since first next (ShowsPart (d.beside first).output (asked.text ++ text))
   time_more {first = first} {now = now} text asked alone =
       elapsed_then {P = ShowsPart (d.beside first).output (asked.text ++ text)} (elapsed_weaker asked.time (λ s h. part_longer (d.beside first).output asked.text text s h)) alone.areas.time
       (λ s h. part_behind (d.beside first).output (d.beside now).output asked.text text s asked.gave h.0)
 
   -- a batch more
-  has_more : {state : State} {commands batch : List Command} {first now next : D} (text : List ℕ) → HasAsked d state commands first now → IsAskedText state batch text →
-      Appends text (d.beside now).output (d.beside next).output → GivesAlone d text now next → HasAsked d state (commands ++ batch) first next
-  has_more {state = state} {commands = commands} {batch = batch} {first = first} {now = now} {next = next} text asked answers gave alone = record {
+  has_more : {state : State} {requests batch : List Request} {first now next : D} (text : List ℕ) → HasAsked d state requests first now → IsAskedText state batch text →
+      Appends text (d.beside now).output (d.beside next).output → GivesAlone d text now next → HasAsked d state (requests ++ batch) first next
+  has_more {state = state} {requests = requests} {batch = batch} {first = first} {now = now} {next = next} text asked answers gave alone = record {
     text = asked.text ++ text;
-    replies = asked_joined state commands batch asked.text text asked.replies answers;
+    replies = asked_joined state requests batch asked.text text asked.replies answers;
     gave = appends_then asked.text text (d.beside first).output (d.beside now).output (d.beside next).output asked.gave gave;
     time = time_more text asked alone;
   }
 
   -- how a run ends from a state, by what was answered
-  asks_from : {state : State} {commands : List Command} {first now : D} (status : Status) (taken : List ℕ) → HasAsked d state commands first now →
-      Takes taken (d.beside first).input (d.beside now).input → AreFirst taken commands (d.beside now).input →
-      ((text : List ℕ) → Appends text (d.beside first).output (d.beside now).output → EndsAsking commands text taken status (d.beside first) (d.beside now)) → AsksFrom d state status first now
-  asks_from {commands = commands} status taken asked takes are ends =
-      record { taken = taken; takes = takes; commands = commands; first = are; text = asked.text; replies = asked.replies; time = asked.time; ends = ends asked.text asked.gave }
+  asks_from : {state : State} {requests : List Request} {first now : D} (status : Status) (taken : List ℕ) → HasAsked d state requests first now →
+      Takes taken (d.beside first).input (d.beside now).input → AreFirst taken requests (d.beside now).input →
+      ((text : List ℕ) → Appends text (d.beside first).output (d.beside now).output → EndsAsking requests text taken status (d.beside first) (d.beside now)) → AsksFrom d state status first now
+  asks_from {requests = requests} status taken asked takes are ends =
+      record { taken = taken; takes = takes; requests = requests; first = are; text = asked.text; replies = asked.replies; time = asked.time; ends = ends asked.text asked.gave }
 
   -- Before the first batch.
-  pub asking_none : {snapshot : Snapshot} {script : Script} {a : D} → HasGivenIn script [] [] (d.beside a).input (d.beside a).input → IsAsking d snapshot [] [] script a a
+  pub asking_none : {snapshot : Snapshot} {script : Requests} {a : D} → HasGivenRequestsIn script [] [] (d.beside a).input (d.beside a).input → IsAsking d snapshot [] [] script a a
   asking_none {a = a} given = record { given = given; batches = (0, refl); gave = gives_nothing (d.beside a).output (d.beside a).output (keeps_self (d.beside a).output); goes = none_goes; areas = images_none; unread = refl; asked = λ state is. has_none }
 
   -- A batch more came, and is answered.
-  pub asking_more : {snapshot : Snapshot} {taken more : List ℕ} {commands batch : List Command} {old new : Script} {first now mid next : D} → IsAsking d snapshot taken commands old first now →
-      TakesAlone d now mid → HasGivenIn new more (commands ++ batch) (d.beside first).input (d.beside mid).input → length batch ≡ batch_size → AnswersBatch d snapshot batch mid next →
-      IsAsking d snapshot more (commands ++ batch) new first next
-  asking_more {more = more} {commands = commands} {batch = batch} {new = new} {first = first} {now = now} {mid = mid} {next = next} asks takes given whole answers = record {
-    given = subst (λ (o : Option (List ℕ)). HasGivenIn new more (commands ++ batch) (d.beside first).input o) (sym answers.alone.input_stays) given;
-    batches = batches_more commands batch asks.batches whole;
-    gave = gives_batch (d.beside first).output (d.beside mid).output (d.beside next).output
+  pub asking_more : {snapshot : Snapshot} {taken more : List ℕ} {requests : List Request} {old new : Requests} {first now mid next : D} (batch : List Request) → IsAsking d snapshot taken requests old first now →
+      TakesAlone d now mid → HasGivenRequestsIn new more (requests ++ batch) (d.beside first).input (d.beside mid).input → length batch ≡ batch_size → AnswersBatch d snapshot (map as_question batch) mid next →
+      IsAsking d snapshot more (requests ++ batch) new first next
+  asking_more {more = more} {requests = requests} {new = new} {first = first} {now = now} {mid = mid} {next = next} batch asks takes given whole answers = record {
+    given = subst (λ (o : Option (List ℕ)). HasGivenRequestsIn new more (requests ++ batch) (d.beside first).input o) (sym answers.alone.input_stays) given;
+    batches = batches_more requests batch asks.batches whole;
+    gave = gives_batch batch (d.beside first).output (d.beside mid).output (d.beside next).output
         (gives_kept (d.beside first).output (d.beside now).output (d.beside mid).output takes.output_stays asks.gave) answers.answers whole answers.gave;
     goes = goes_then (goes_then asks.goes (leaves_goes takes.areas)) (leaves_goes answers.alone.areas);
     areas = images_then (images_then asks.areas (images_beside takes.areas)) (images_beside answers.alone.areas);
@@ -148,18 +152,18 @@ module _ {D : Type 0} {d : Ghosts D} where
   }
 
   -- The last batch came, and is answered.
-  pub asks_done : {snapshot : Snapshot} {taken more : List ℕ} {commands batch : List Command} {old new : Script} {first now mid next : D} → IsAsking d snapshot taken commands old first now →
-      TakesAlone d now mid → HasGivenIn new more (commands ++ batch) (d.beside first).input (d.beside mid).input → EndsIn more (commands ++ batch) (d.beside first).input (d.beside mid).input →
-      AnswersBatch d snapshot batch mid next → AsksAll d snapshot Done first next
-  asks_done {more = more} {commands = commands} {batch = batch} {new = new} {first = first} {mid = mid} {next = next} asks takes given ends answers =
-      let came : HasGivenIn new more (commands ++ batch) (d.beside first).input (d.beside next).input =
-      subst (λ (o : Option (List ℕ)). HasGivenIn new more (commands ++ batch) (d.beside first).input o) (sym answers.alone.input_stays) given in
+  pub asks_done : {snapshot : Snapshot} {taken more : List ℕ} {requests : List Request} {old new : Requests} {first now mid next : D} (batch : List Request) → IsAsking d snapshot taken requests old first now →
+      TakesAlone d now mid → HasGivenRequestsIn new more (requests ++ batch) (d.beside first).input (d.beside mid).input → EndsInRequests more (requests ++ batch) (d.beside first).input (d.beside mid).input →
+      AnswersBatch d snapshot (map as_question batch) mid next → AsksAll d snapshot Done first next
+  asks_done {more = more} {requests = requests} {new = new} {first = first} {mid = mid} {next = next} batch asks takes given ends answers =
+      let came : HasGivenRequestsIn new more (requests ++ batch) (d.beside first).input (d.beside next).input =
+      subst (λ (o : Option (List ℕ)). HasGivenRequestsIn new more (requests ++ batch) (d.beside first).input o) (sym answers.alone.input_stays) given in
       let whole : EndsWhole more (d.beside first).input (d.beside next).input =
       record { takes = came.takes; end = subst IsAtEnd (sym answers.alone.input_stays) ends.end; few = ends.few } in
       record {
         from = λ state is.
             asks_from Done more (has_more answers.text (has_taken (asks.asked state is) takes) (asked_text state is answers.answers) answers.gave answers.alone) came.takes
-            (first_given new more (commands ++ batch) (d.beside first).input (d.beside next).input came) (λ text gave. (whole, ends.commands_are, gave));
+            (first_given new more (requests ++ batch) (d.beside first).input (d.beside next).input came) (λ text gave. (whole, ends.requests_are, gave));
         cause = (more, whole);
         between = λ ends_so. absurd ends_so;
         taken = λ is. absurd (cc is);
@@ -170,11 +174,11 @@ module _ {D : Type 0} {d : Ghosts D} where
       }
 
   -- A batch came, and isn't given: writing failed ..
-  broken_off : {snapshot : Snapshot} {taken more : List ℕ} {commands batch : List Command} {old new : Script} {first now mid next : D} → IsAsking d snapshot taken commands old first now →
-      TakesAlone d now mid → HasGivenIn new more (commands ++ batch) (d.beside first).input (d.beside mid).input → BreaksOff d snapshot batch mid next → AsksAll d snapshot WriteFault first next
-  broken_off {more = more} {commands = commands} {batch = batch} {new = new} {first = first} {mid = mid} {next = next} asks takes given breaks =
-      let came : HasGivenIn new more (commands ++ batch) (d.beside first).input (d.beside next).input =
-      subst (λ (o : Option (List ℕ)). HasGivenIn new more (commands ++ batch) (d.beside first).input o) (sym breaks.alone.input_stays) given in
+  broken_off : {snapshot : Snapshot} {taken more : List ℕ} {requests : List Request} {old new : Requests} {first now mid next : D} (batch : List Request) → IsAsking d snapshot taken requests old first now →
+      TakesAlone d now mid → HasGivenRequestsIn new more (requests ++ batch) (d.beside first).input (d.beside mid).input → BreaksOff d snapshot (map as_question batch) mid next → AsksAll d snapshot WriteFault first next
+  broken_off {more = more} {requests = requests} {new = new} {first = first} {mid = mid} {next = next} batch asks takes given breaks =
+      let came : HasGivenRequestsIn new more (requests ++ batch) (d.beside first).input (d.beside next).input =
+      subst (λ (o : Option (List ℕ)). HasGivenRequestsIn new more (requests ++ batch) (d.beside first).input o) (sym breaks.alone.input_stays) given in
       let goes = goes_then asks.goes (leaves_goes takes.areas) in
       record {
         from = λ state is.
@@ -182,10 +186,10 @@ module _ {D : Type 0} {d : Ghosts D} where
             record {
               taken = more;
               takes = came.takes;
-              commands = commands ++ batch;
-              first = first_given new more (commands ++ batch) (d.beside first).input (d.beside next).input came;
+              requests = requests ++ batch;
+              first = first_given new more (requests ++ batch) (d.beside first).input (d.beside next).input came;
               text = asked.text ++ breaks.text;
-              replies = asked_joined state commands batch asked.text breaks.text asked.replies (asked_text state is breaks.answers);
+              replies = asked_joined state requests batch asked.text breaks.text asked.replies (asked_text state is breaks.answers);
               time = time_more breaks.text asked breaks.alone;
               ends = tt;
             };
@@ -199,12 +203,12 @@ module _ {D : Type 0} {d : Ghosts D} where
       }
 
   -- .. or it isn't answered
-  unanswered : {snapshot : Snapshot} {taken more : List ℕ} {commands : List Command} {old new : Script} {first now mid : D} (batch : List Command) (status : Status) → IsAsking d snapshot taken commands old first now →
-      TakesAlone d now mid → HasGivenIn new more (commands ++ batch) (d.beside first).input (d.beside mid).input → StopsAnswering status snapshot → AsksAll d snapshot status first mid
-  unanswered {more = more} {commands = commands} {new = new} {first = first} {now = now} {mid = mid} batch NoMemory asks takes given stops = record {
+  unanswered : {snapshot : Snapshot} {taken more : List ℕ} {requests : List Request} {old new : Requests} {first now mid : D} (batch : List Request) (status : Status) → IsAsking d snapshot taken requests old first now →
+      TakesAlone d now mid → HasGivenRequestsIn new more (requests ++ batch) (d.beside first).input (d.beside mid).input → StopsAnswering status snapshot → AsksAll d snapshot status first mid
+  unanswered {more = more} {requests = requests} {new = new} {first = first} {now = now} {mid = mid} batch NoMemory asks takes given stops = record {
     from = λ state is.
         asks_from NoMemory more (has_taken (asks.asked state is) takes) given.takes
-        (first_of more commands batch (commands ++ batch) (d.beside mid).input refl (first_given new more (commands ++ batch) (d.beside first).input (d.beside mid).input given))
+        (first_of more requests batch (requests ++ batch) (d.beside mid).input refl (first_given new more (requests ++ batch) (d.beside first).input (d.beside mid).input given))
         (λ text gave. (asks.batches, gave));
     cause = tt;
     between = λ ends_so. gives_kept (d.beside first).output (d.beside now).output (d.beside mid).output takes.output_stays asks.gave;
@@ -233,16 +237,16 @@ module _ {D : Type 0} {d : Ghosts D} where
   unanswered batch NotAStore asks takes given stops = absurd stops
   unanswered batch TooMuch asks takes given stops = absurd stops
 
-  unanswered_so : {snapshot : Snapshot} {taken more : List ℕ} {commands : List Command} {old new : Script} {first now mid : D} (batch : List Command) (status : Status) (next : D) →
-      IsAsking d snapshot taken commands old first now → TakesAlone d now mid → HasGivenIn new more (commands ++ batch) (d.beside first).input (d.beside mid).input →
+  unanswered_so : {snapshot : Snapshot} {taken more : List ℕ} {requests : List Request} {old new : Requests} {first now mid : D} (batch : List Request) (status : Status) (next : D) →
+      IsAsking d snapshot taken requests old first now → TakesAlone d now mid → HasGivenRequestsIn new more (requests ++ batch) (d.beside first).input (d.beside mid).input →
       (next ≡ mid) × StopsAnswering status snapshot → AsksAll d snapshot status first next
   unanswered_so {snapshot = snapshot} {first = first} batch status next asks takes given (same, stops) =
       subst (λ (s : D). AsksAll d snapshot status first s) (sym same) (unanswered batch status asks takes given stops)
 
-  pub asks_unanswered : {snapshot : Snapshot} {taken more : List ℕ} {commands : List Command} {old new : Script} {first now mid next : D} (batch : List Command) (status : Status) →
-      IsAsking d snapshot taken commands old first now → TakesAlone d now mid → HasGivenIn new more (commands ++ batch) (d.beside first).input (d.beside mid).input →
-      LeavesBatch d status snapshot batch mid next → AsksAll d snapshot status first next
-  asks_unanswered batch WriteFault asks takes given leaves = broken_off asks takes given leaves
+  pub asks_unanswered : {snapshot : Snapshot} {taken more : List ℕ} {requests : List Request} {old new : Requests} {first now mid next : D} (batch : List Request) (status : Status) →
+      IsAsking d snapshot taken requests old first now → TakesAlone d now mid → HasGivenRequestsIn new more (requests ++ batch) (d.beside first).input (d.beside mid).input →
+      LeavesBatch d status snapshot (map as_question batch) mid next → AsksAll d snapshot status first next
+  asks_unanswered batch WriteFault asks takes given leaves = broken_off batch asks takes given leaves
   asks_unanswered {next = next} batch NoMemory asks takes given leaves = unanswered_so batch NoMemory next asks takes given leaves
   asks_unanswered {next = next} batch (Damaged page) asks takes given leaves = unanswered_so batch (Damaged page) next asks takes given leaves
   asks_unanswered batch Done asks takes given leaves = absurd leaves.1
@@ -254,14 +258,14 @@ module _ {D : Type 0} {d : Ghosts D} where
   asks_unanswered batch TooMuch asks takes given leaves = absurd leaves.1
 
   -- A batch isn't read.
-  pub asks_unread : {snapshot : Snapshot} {taken : List ℕ} {commands : List Command} {old : Script} {first now mid : D} (status : Status) (new : Script) → IsAsking d snapshot taken commands old first now →
+  pub asks_unread : {snapshot : Snapshot} {taken : List ℕ} {requests : List Request} {old : Requests} {first now mid : D} (status : Status) (new : Requests) → IsAsking d snapshot taken requests old first now →
       TakesAlone d now mid → StopsBatch d status old new now mid → AsksAll d snapshot status first mid
-  asks_unread {taken = taken} {commands = commands} {first = first} {now = now} {mid = mid} ReadFault new asks takes (rose, stops) =
-      let (more, batch, fewer, short, given, all) = stops (d.beside first).input taken commands asks.given in
+  asks_unread {taken = taken} {requests = requests} {first = first} {now = now} {mid = mid} ReadFault new asks takes (rose, stops) =
+      let (more, batch, fewer, short, given, all) = stops (d.beside first).input taken requests asks.given in
       record {
         from = λ state is.
             asks_from ReadFault (taken ++ more) (has_taken (asks.asked state is) takes) given.takes
-            (first_of (taken ++ more) commands batch (commands ++ batch) (d.beside mid).input refl (first_given new (taken ++ more) (commands ++ batch) (d.beside first).input (d.beside mid).input given))
+            (first_of (taken ++ more) requests batch (requests ++ batch) (d.beside mid).input refl (first_given new (taken ++ more) (requests ++ batch) (d.beside first).input (d.beside mid).input given))
             (λ text gave. (short, (asks.batches, (batch, fewer, all.whole)), gave));
         cause = (rose_since (d.beside first).in_faults (d.beside now).in_faults (d.beside mid).in_faults asks.goes.counts.read rose, taken ++ more, short, given.takes);
         between = λ ends_so. gives_kept (d.beside first).output (d.beside now).output (d.beside mid).output takes.output_stays asks.gave;
@@ -271,12 +275,12 @@ module _ {D : Type 0} {d : Ghosts D} where
         areas = images_then asks.areas (images_beside takes.areas);
         unread = takes.areas.reads_stay ∙ asks.unread;
       }
-  asks_unread {taken = taken} {commands = commands} {first = first} {now = now} {mid = mid} TooMuch new asks takes stops =
-      let (more, batch, fewer, long, given, all) = stops (d.beside first).input taken commands asks.given in
+  asks_unread {taken = taken} {requests = requests} {first = first} {now = now} {mid = mid} TooMuch new asks takes stops =
+      let (more, batch, fewer, long, given, all) = stops (d.beside first).input taken requests asks.given in
       record {
         from = λ state is.
             asks_from TooMuch (taken ++ more) (has_taken (asks.asked state is) takes) given.takes
-            (first_of (taken ++ more) commands batch (commands ++ batch) (d.beside mid).input refl (first_given new (taken ++ more) (commands ++ batch) (d.beside first).input (d.beside mid).input given))
+            (first_of (taken ++ more) requests batch (requests ++ batch) (d.beside mid).input refl (first_given new (taken ++ more) (requests ++ batch) (d.beside first).input (d.beside mid).input given))
             (λ text gave. (long, (asks.batches, (batch, fewer, all.whole)), gave));
         cause = (taken ++ more, long, given.takes);
         between = λ ends_so. gives_kept (d.beside first).output (d.beside now).output (d.beside mid).output takes.output_stays asks.gave;
@@ -286,8 +290,8 @@ module _ {D : Type 0} {d : Ghosts D} where
         areas = images_then asks.areas (images_beside takes.areas);
         unread = takes.areas.reads_stay ∙ asks.unread;
       }
-  asks_unread {taken = taken} {commands = commands} {first = first} {now = now} {mid = mid} NoMemory new asks takes stops =
-      let (more, took, short, are) = stops (d.beside first).input taken commands asks.given in
+  asks_unread {taken = taken} {requests = requests} {first = first} {now = now} {mid = mid} NoMemory new asks takes stops =
+      let (more, took, short, are) = stops (d.beside first).input taken requests asks.given in
       record {
         from = λ state is. asks_from NoMemory (taken ++ more) (has_taken (asks.asked state is) takes) took are (λ text gave. (asks.batches, gave));
         cause = tt;
@@ -307,11 +311,11 @@ module _ {D : Type 0} {d : Ghosts D} where
   asks_unread (Damaged page) new asks takes stops = absurd stops
 
   -- It ends between two batches, by itself.
-  pub asks_given_up : {snapshot : Snapshot} {taken : List ℕ} {commands : List Command} {script : Script} {first now : D} → IsAsking d snapshot taken commands script first now →
+  pub asks_given_up : {snapshot : Snapshot} {taken : List ℕ} {requests : List Request} {script : Requests} {first now : D} → IsAsking d snapshot taken requests script first now →
       AsksAll d snapshot NoMemory first now
-  asks_given_up {taken = taken} {commands = commands} {script = script} {first = first} {now = now} asks = record {
+  asks_given_up {taken = taken} {requests = requests} {script = script} {first = first} {now = now} asks = record {
     from = λ state is.
-        asks_from NoMemory taken (asks.asked state is) asks.given.takes (first_given script taken commands (d.beside first).input (d.beside now).input asks.given) (λ text gave. (asks.batches, gave));
+        asks_from NoMemory taken (asks.asked state is) asks.given.takes (first_given script taken requests (d.beside first).input (d.beside now).input asks.given) (λ text gave. (asks.batches, gave));
     cause = tt;
     between = λ ends_so. asks.gave;
     taken = λ is. absurd (cc is);
@@ -327,7 +331,7 @@ module _ {D : Type 0} {d : Ghosts D} where
   asks_nothing {state = state} {a = a} {b = b} status still ends = record {
     taken = [];
     takes = takes_after [] (d.beside a).input (d.beside b).input (d.beside b).input still.beside_stays.input (takes_nothing (d.beside b).input);
-    commands = [];
+    requests = [];
     first = first_none (d.beside b).input;
     text = [];
     replies = asked_none state;
@@ -387,22 +391,18 @@ module _ {D : Type 0} (d : Ghosts D) (a b : D) where
 
 -- A run over the snapshot that was taken:
 
--- the snapshot is that of a store in the state that the image recovers to
-snapshot_at : (snapshot : Snapshot) (was : Image) (state : State) → HasPagesOf snapshot was → Recovers was (Some state) → IsSnapshotOf snapshot state
-snapshot_at snapshot was state same recovers = subst (λ (pages : Pages). Stands pages state) (sym same) recovers
-
-asked_after : (status : Status) (commands : List Command) (text taken : List ℕ) (a b c : Beside) → Keeps a.input b.input → Keeps a.output b.output → EndsAsking commands text taken status b c →
-    EndsAsking commands text taken status a c
-asked_after Done commands text taken a b c input output (whole, are, gave) = (whole_after c.input input whole, are, appends_after text a.output b.output c.output output gave)
-asked_after ReadFault commands text taken a b c input output (short, are, gave) = (short, are, appends_after text a.output b.output c.output output gave)
-asked_after TooMuch commands text taken a b c input output (long, are, gave) = (long, are, appends_after text a.output b.output c.output output gave)
-asked_after DiskFault commands text taken a b c input output (none, no_commands, gave) = (none, no_commands, appends_after [] a.output b.output c.output output gave)
-asked_after NoMemory commands text taken a b c input output (are, gave) = (are, appends_after text a.output b.output c.output output gave)
-asked_after WriteFault commands text taken a b c input output ends = tt
-asked_after NotAStore commands text taken a b c input output ends = absurd ends
-asked_after (Damaged page) commands text taken a b c input output ends = absurd ends
-asked_after Usage commands text taken a b c input output ends = absurd ends
-asked_after Refused commands text taken a b c input output ends = absurd ends
+asked_after : (status : Status) (requests : List Request) (text taken : List ℕ) (a b c : Beside) → Keeps a.input b.input → Keeps a.output b.output → EndsAsking requests text taken status b c →
+    EndsAsking requests text taken status a c
+asked_after Done requests text taken a b c input output (whole, are, gave) = (whole_after c.input input whole, are, appends_after text a.output b.output c.output output gave)
+asked_after ReadFault requests text taken a b c input output (short, are, gave) = (short, are, appends_after text a.output b.output c.output output gave)
+asked_after TooMuch requests text taken a b c input output (long, are, gave) = (long, are, appends_after text a.output b.output c.output output gave)
+asked_after DiskFault requests text taken a b c input output (none, no_commands, gave) = (none, no_commands, appends_after [] a.output b.output c.output output gave)
+asked_after NoMemory requests text taken a b c input output (are, gave) = (are, appends_after text a.output b.output c.output output gave)
+asked_after WriteFault requests text taken a b c input output ends = tt
+asked_after NotAStore requests text taken a b c input output ends = absurd ends
+asked_after (Damaged page) requests text taken a b c input output ends = absurd ends
+asked_after Usage requests text taken a b c input output ends = absurd ends
+asked_after Refused requests text taken a b c input output ends = absurd ends
 
 module _ {D : Type 0} {d : Ghosts D} where
   taken_from : {a b c : D} {state : State} (status : Status) → IsStill d a b → AsksFrom d state status b c → AsksFrom d state status a c
@@ -411,13 +411,13 @@ module _ {D : Type 0} {d : Ghosts D} where
       record {
         taken = from.taken;
         takes = takes_after from.taken (d.beside a).input (d.beside b).input (d.beside c).input still.beside_stays.input from.takes;
-        commands = from.commands;
+        requests = from.requests;
         first = from.first;
         text = from.text;
         replies = from.replies;
         time = elapsed_then {P = ShowsPart (d.beside a).output from.text} (elapsed_weaker still.time (λ s h. ([], (from.text, refl), kept_appends (d.beside a).output s.output h.0)))
             from.time (λ s h. (h.0, h.1, appends_after h.0 (d.beside a).output (d.beside b).output s.output output h.2));
-        ends = asked_after status from.commands from.text from.taken (d.beside a) (d.beside b) (d.beside c) still.beside_stays.input output from.ends;
+        ends = asked_after status from.requests from.text from.taken (d.beside a) (d.beside b) (d.beside c) still.beside_stays.input output from.ends;
       }
 
   taken_cause : {a b c : D} {snapshot : Snapshot} (status : Status) → IsStill d a b → ((was : Image) → IsSettled d a was → HasHeader was × HasPagesOf snapshot was) →
@@ -432,7 +432,7 @@ module _ {D : Type 0} {d : Ghosts D} where
   )
   taken_cause {a = a} {b = b} {c = c} WriteFault still took all rose = rose_since (d.beside a).out_faults (d.beside b).out_faults (d.beside c).out_faults (counts_still still).written rose
   taken_cause NoMemory still took all cause = tt
-  taken_cause {snapshot = snapshot} (Damaged page) still took all cause = λ was state settled told recovers. (all.from state (snapshot_at snapshot was state (took was settled).1 recovers)).ends
+  taken_cause {snapshot = snapshot} (Damaged page) still took all cause = λ was state settled told recovers. (all.from state (snapshot_stands snapshot was state (took was settled).1 recovers)).ends
   taken_cause {a = a} {b = b} {c = c} TooMuch still took all (taken, long, takes) =
       (taken, long, takes_after taken (d.beside a).input (d.beside b).input (d.beside c).input still.beside_stays.input takes)
   taken_cause NotAStore still took all cause = absurd cause
@@ -445,7 +445,7 @@ module _ {D : Type 0} {d : Ghosts D} where
       let goes = goes_then (still_goes still) all.goes in
       let areas = images_then (images_still still) all.areas in
       record {
-        from = λ was state settled recovers. taken_from status still (all.from state (snapshot_at snapshot was state (took was settled).1 recovers));
+        from = λ was state settled recovers. taken_from status still (all.from state (snapshot_stands snapshot was state (took was settled).1 recovers));
         cause = taken_cause status still took all all.cause;
         between = λ ends_so. gives_after (d.beside a).output (d.beside b).output (d.beside c).output still.beside_stays.output (all.between ends_so);
         untaken = λ is. absurd (all.taken is);

@@ -17,7 +17,7 @@ use Rattle.nx_ship.specs.declared.error.Start.TheVariants.{All, Number}
 use Rattle.nx_words.specs.Operands.{is_operand, are_operands}
 use Rattle.nx_front.specs.declared.words.CommandLine.{CommandLine}
 use Rattle.nx_front.specs.declared.words.CommandLine.TheVariants.{Tidy, Run, Plan, Verify, Init, Gen, Check, Find, Ship, Apply, Ask}
-use Rattle.nx_front.specs.CommandLine.{is_store, is_named_store, is_within, is_weight_limit, has_plain_start, is_group_number, start_said, is_target, is_tolerance, is_page_limit, is_seed, is_element_count, settings_said, command_of_two, command_of_ship, are_workers, command_of_ask, command_of_limit, command_of_three, command_of_four, command_of_init, command_line_of, command_line}
+use Rattle.nx_front.specs.CommandLine.{is_store, is_log_name, is_named_store, is_within, is_weight_limit, has_plain_start, is_group_number, start_said, is_target, is_tolerance, is_page_limit, is_seed, is_element_count, settings_said, command_of_two, command_of_ship, are_workers, command_of_ask, command_of_limit, command_of_three, command_of_four, command_of_init, command_line_of, command_line}
 
 both : (a b : Bool) → (a && b) ≡ true → (a ≡ true) × (b ≡ true)
 both true b e = (refl, e)
@@ -38,7 +38,9 @@ store_is [] is = is
 store_is (b ∷ bytes) is = is
 
 named_is : (word : List ℕ) → is_named_store word ≡ true → is_operand word ≡ true
-named_is word is = store_is word (both (is_store word) (not (bytes_eq word (codes "_"))) is).0
+named_is word is =
+    let named : (is_store word && not (bytes_eq word (codes "_"))) ≡ true = (both (is_store word && not (bytes_eq word (codes "_"))) (not (is_log_name word)) is).0 in
+    store_is word (both (is_store word) (not (bytes_eq word (codes "_"))) named).0
 
 command_is : (word known : List ℕ) → is_operand known ≡ true → bytes_eq word known ≡ true → is_operand word ≡ true
 command_is word known operand is = subst (λ (w : List ℕ). is_operand w ≡ true) (sym ((bytes_eq-Decides word known).0 is)) operand

@@ -1,4 +1,4 @@
--- A conversation over a store: commands that came, turns that are had of them, and how it ends.
+-- A conversation over a store: requests that came, turns that are had of them, and how it ends.
 use Rattle.std.proofs.Common.{◌≡◌, inl, inr, ℕ, ◌+◌, ◌≤◌, true, List, [], ◌∷◌, ◌++◌, length, Option, None, Some, IfSome, IsSome, Ok, Err, refl, sym, ap, ◌∙◌, subst, arith, append_assoc, append-nil}
 use Rattle.std.proofs.lemmas.Bool.{false≢true}
 use Rattle.nx_host.specs.declared.disk.Disk.{Ghosts}
@@ -14,23 +14,22 @@ use Rattle.nx_holdings.specs.Holdings.{HoldsBy}
 use Rattle.nx_holdings.proofs.OneLemmas.{hold_one}
 use Rattle.nx_records.specs.Words.{replay, Held, Holds}
 use Rattle.nx_records.specs.Records.{HasHeader}
-use Rattle.nx_script.specs.declared.command.Command.{Command}
 use Rattle.nx_script.specs.declared.command.Command.TheVariants.{Checkpoint}
-use Rattle.nx_script.specs.declared.script.Script.{Script}
+use Rattle.nx_script.specs.declared.request.Request.{Request}
+use Rattle.nx_script.specs.declared.request.Request.TheVariants.{Single}
+use Rattle.nx_script.specs.declared.requests.Requests.{Requests}
 use Rattle.nx_script.specs.declared.error.ScriptError.{ScriptError}
 use Rattle.nx_script.specs.declared.error.ScriptError.TheVariants as scripts
-use Rattle.nx_script.specs.Commands.{AreCommands, AreWhole}
-use Rattle.nx_script.specs.Script.{HasGiven, HasGivenIn, Stops}
-use Rattle.nx_script.proofs.OneList.{one_list, given_prefix}
-use Rattle.nx_script.proofs.ScriptLemmas.{in_input}
+use Rattle.nx_script.specs.Requests.{AreRequests, AreWholeRequests, HasGivenRequests, HasGivenRequestsIn, StopsRequests}
+use Rattle.nx_script.proofs.OneRequestList.{one_request_list, given_requests_prefix}
+use Rattle.nx_script.proofs.RequestLemmas.{in_requests}
 use Rattle.nx_state.specs.State.{State}
 use Rattle.nx_state.specs.Stands.{Recovers}
 use Rattle.nx_store.specs.declared.store.Store.{Store}
 use Rattle.nx_store.specs.declared.error.EngineError.{EngineError}
 use Rattle.nx_store.specs.declared.error.EngineError.TheVariants as engine
-use Rattle.nx_store.specs.Store.{IsAt, TakesNone, NotOpened}
-use Rattle.nx_store.specs.Staying.{HoldsOn}
-use Rattle.nx_store.specs.Reads.{opening_reads, ReadsOpening, is_lookup, ReadsFor, ReadsWithin}
+use Rattle.nx_store.specs.Store.{IsAt, TakesNone, NotOpened, HoldsOn}
+use Rattle.nx_store.specs.Reads.{opening_reads, ReadsOpening}
 use Rattle.nx_store.proofs.AtLemmas.{at_image, at_beside}
 use Rattle.nx_store.proofs.FoundLemmas.{same_some}
 use Rattle.nx_store.proofs.StayingLemmas.{held_on}
@@ -39,12 +38,12 @@ use Rattle.nx_filters.specs.declared.status.Status.TheVariants.{Done, Usage, Ref
 use Rattle.nx_filters.specs.declared.give.GiveError.{GiveError}
 use Rattle.nx_filters.specs.TakeError.{status_of_script, status_of_give_error}
 use Rattle.nx_filters.specs.Outcome.{TakesFew, CountsGrow, EndsWhole, Given}
-use Rattle.nx_front.specs.Serving.{Turn, AreFirst, state_after, commands_of, texts_of, ShowsMoment, ShowsBetween, LeavesMoments, EndsBetween, AreOfTaken, EndsServing, EndsWithCheckpoint, HasEmptyLog, LeavesAll, ReadsLookups, ServesFrom, IsCaused, EndsWithoutHeader, Serves}
-use Rattle.nx_front.specs.Lookups.{AreLookups, ReadForAll}
+use Rattle.nx_front.specs.Serving.{Turn, AreFirst, state_after, requests_of, texts_of, ShowsMoment, ShowsBetween, LeavesMoments, EndsBetween, AreOfTaken, EndsServing, EndsWithCheckpoint, HasEmptyLog, LeavesAll, ReadsLookups, ServesFrom, IsCaused, EndsWithoutHeader, Serves}
+use Rattle.nx_front.specs.Lookups.{is_lookup_request, AreLookups, ReadsForRequest, ReadsRequestWithin, ReadForAll}
 use Rattle.nx_front.specs.Conversation.{ShowsReached, HasRun, HasLookedUp, IsLater, IsConversing, AnswersNext, BeginsNext, StopsShort, IsUnanswered, IsEnded, Converses, status_of_engine}
 use Rattle.nx_filters.proofs.OutcomeLemmas.{rose_since, told_at_first, kept_appends, keeps_of}
 use Rattle.nx_front.proofs.ClockLemmas.{HasClock, at_end}
-use Rattle.nx_front.proofs.MomentLemmas.{every_moment, every_between, reached_none, commands_more}
+use Rattle.nx_front.proofs.MomentLemmas.{every_moment, every_between, reached_none, requests_more}
 use Rattle.nx_front.proofs.ServeLemmas.{served_none, served_filled, given_block, run_block, between_served, between_block, all_given, stops_giving, block_stopped}
 use Rattle.nx_front.proofs.UntakenLemmas.{of_taken, first_of_taken, none_of_taken, none_came, not_none, none_left, left_then, left_still, left_taken, left_given}
 use Rattle.nx_front.proofs.LookupLemmas.{lookups_but_last, read_more}
@@ -61,54 +60,54 @@ pub end_kept : (now next : Option (List ℕ)) → IsAtEnd now → Keeps now next
 end_kept now None end kept = tt
 end_kept now (Some left) end kept = subst IsAtEnd kept end
 
-given_kept : {script : Script} {taken : List ℕ} {commands : List Command} {first now : Option (List ℕ)} (next : Option (List ℕ)) → HasGivenIn script taken commands first now → Keeps now next →
-    HasGivenIn script taken commands first next
+given_kept : {script : Requests} {taken : List ℕ} {requests : List Request} {first now : Option (List ℕ)} (next : Option (List ℕ)) → HasGivenRequestsIn script taken requests first now → Keeps now next →
+    HasGivenRequestsIn script taken requests first next
 given_kept {taken = taken} {first = first} {now = now} next given kept = record {
   given = given.given;
   takes = takes_kept taken first now next given.takes kept;
   end = λ ended. let (end, few) = given.end ended in (end_kept now next end kept, few);
 }
 
--- the commands that a script gave are the first ones
-pub first_given : (script : Script) (taken : List ℕ) (commands : List Command) (first now : Option (List ℕ)) → HasGivenIn script taken commands first now → AreFirst taken commands now
-first_given script taken commands first None given = tt
-first_given script taken commands first (Some left) given = given_prefix script taken left commands first given
+-- the requests that a script gave are the first ones
+pub first_given : (script : Requests) (taken : List ℕ) (requests : List Request) (first now : Option (List ℕ)) → HasGivenRequestsIn script taken requests first now → AreFirst taken requests now
+first_given script taken requests first None given = tt
+first_given script taken requests first (Some left) given = given_requests_prefix script taken left requests first given
 
 -- no more bytes were taken than a run takes
-pub few_given : (script : Script) (taken : List ℕ) (commands : List Command) (first now : Option (List ℕ)) → HasGivenIn script taken commands first now → length taken ≤ most_input
-few_given script taken commands first now given =
-    let counted : script.input.taken ≡ length taken = given.given.counted in let few : script.input.taken ≤ most_input = script.input.few in let e : length taken ≤ most_input = omega arith in e
+pub few_given : (script : Requests) (taken : List ℕ) (requests : List Request) (first now : Option (List ℕ)) → HasGivenRequestsIn script taken requests first now → length taken ≤ most_input
+few_given script taken requests first now given =
+    let counted : script.script.input.taken ≡ length taken = given.given.script.counted in let few : script.script.input.taken ≤ most_input = script.script.input.few in let e : length taken ≤ most_input = omega arith in e
 
--- the next command of the script
-pub next_given : (old new : Script) (next : Option Command) (command : Command) → next ≡ Some command →
-    IfSome next (λ c. (taken : List ℕ) (commands : List Command) → HasGiven old taken commands → HasGiven new taken (commands ++ c ∷ [])) →
-    (taken : List ℕ) (commands : List Command) → HasGiven old taken commands → HasGiven new taken (commands ++ command ∷ [])
-next_given old new next command is given =
-    subst (λ (o : Option Command). IfSome o (λ c. (taken : List ℕ) (commands : List Command) → HasGiven old taken commands → HasGiven new taken (commands ++ c ∷ []))) is given
+-- the next request of the script
+pub next_given : (old new : Requests) (next : Option Request) (request : Request) → next ≡ Some request →
+    IfSome next (λ c. (taken : List ℕ) (requests : List Request) → HasGivenRequests old taken requests → HasGivenRequests new taken (requests ++ c ∷ [])) →
+    (taken : List ℕ) (requests : List Request) → HasGivenRequests old taken requests → HasGivenRequests new taken (requests ++ request ∷ [])
+next_given old new next request is given =
+    subst (λ (o : Option Request). IfSome o (λ c. (taken : List ℕ) (requests : List Request) → HasGivenRequests old taken requests → HasGivenRequests new taken (requests ++ c ∷ []))) is given
 
--- a last command is the last one
-last_one : (before commands : List Command) (last command : Command) → commands ++ command ∷ [] ≡ before ++ last ∷ [] → command ≡ last
-last_one [] [] last command is = cc is
-last_one [] (c ∷ []) last command is = absurd (cc is)
-last_one [] (c ∷ c' ∷ commands) last command is = absurd (cc is)
-last_one (b ∷ []) [] last command is = absurd (cc is)
-last_one (b ∷ b' ∷ before) [] last command is = absurd (cc is)
-last_one (b ∷ before) (c ∷ commands) last command is = last_one before commands last command (let e : commands ++ command ∷ [] ≡ before ++ last ∷ [] = cc is in e)
+-- a last request is the last one
+last_one : (before requests : List Request) (last request : Request) → requests ++ request ∷ [] ≡ before ++ last ∷ [] → request ≡ last
+last_one [] [] last request is = cc is
+last_one [] (c ∷ []) last request is = absurd (cc is)
+last_one [] (c ∷ c' ∷ requests) last request is = absurd (cc is)
+last_one (b ∷ []) [] last request is = absurd (cc is)
+last_one (b ∷ b' ∷ before) [] last request is = absurd (cc is)
+last_one (b ∷ before) (c ∷ requests) last request is = last_one before requests last request (let e : requests ++ request ∷ [] ≡ before ++ last ∷ [] = cc is in e)
 
-no_last : (before : List Command) (last : Command) → [] ≡ before ++ last ∷ [] → ⊥
+no_last : (before : List Request) (last : Request) → [] ≡ before ++ last ∷ [] → ⊥
 no_last [] last is = cc is
 no_last (b ∷ before) last is = cc is
 
--- the first of the first commands
-pub first_of : (taken : List ℕ) (commands rest all : List Command) (now : Option (List ℕ)) → commands ++ rest ≡ all → AreFirst taken all now → AreFirst taken commands now
-first_of taken commands rest all None is first = tt
-first_of taken commands rest all (Some left) is (others, are) =
-    (rest ++ others, subst (λ (cs : List Command). AreCommands (taken ++ left) cs) (ap (λ (cs : List Command). cs ++ others) (sym is) ∙ append_assoc commands rest others) are)
+-- the first of the first requests
+pub first_of : (taken : List ℕ) (requests rest all : List Request) (now : Option (List ℕ)) → requests ++ rest ≡ all → AreFirst taken all now → AreFirst taken requests now
+first_of taken requests rest all None is first = tt
+first_of taken requests rest all (Some left) is (others, are) =
+    (rest ++ others, subst (λ (rs : List Request). AreRequests (taken ++ left) rs) (ap (λ (rs : List Request). rs ++ others) (sym is) ∙ append_assoc requests rest others) are)
 
--- commands of an input of which nothing is taken
+-- requests of an input of which nothing is taken
 pub first_none : (now : Option (List ℕ)) → AreFirst [] [] now
 first_none None = tt
-first_none (Some left) = let one = one_list left in (one.commands, one.are)
+first_none (Some left) = let one = one_request_list left in (one.requests, one.are)
 
 stopped_serving : (status : Status) (turns : List Turn) (taken : List ℕ) (a b : Beside) → StopsShort status → EndsServing turns taken status a b × (status ≡ Done → ⊥)
 stopped_serving DiskFault turns taken a b short = (tt, λ is. cc is)
@@ -127,9 +126,9 @@ shows_moments : {D : Type 0} (d : Ghosts D) (first now : D) (state : State) (tur
     Elapses d.moment d.stood_since first now (ShowsMoment (d.beside first).output state turns)
 shows_moments d first now state turns time = elapsed_weaker time (λ s h. (h.0, h.1, every_moment state turns h.0 s.image h.2))
 
-pub few : {first now : Option (List ℕ)} {script : Script} {taken : List ℕ} {commands : List Command} → HasGivenIn script taken commands first now → TakesFew first now
-few {first = first} {now = now} {script = script} {taken = taken} {commands = commands} given =
-    record { taken = taken; few = few_given script taken commands first now given; takes = given.takes }
+pub few : {first now : Option (List ℕ)} {script : Requests} {taken : List ℕ} {requests : List Request} → HasGivenRequestsIn script taken requests first now → TakesFew first now
+few {first = first} {now = now} {script = script} {taken = taken} {requests = requests} given =
+    record { taken = taken; few = few_given script taken requests first now given; takes = given.takes }
 
 -- Behind an input and an output that stay:
 
@@ -143,9 +142,9 @@ appends_after bytes a b c kept appends = appends_then [] bytes a b c (kept_appen
 pub whole_after : {taken : List ℕ} {a b : Option (List ℕ)} (c : Option (List ℕ)) → Keeps a b → EndsWhole taken b c → EndsWhole taken a c
 whole_after {taken = taken} {a = a} {b = b} c kept whole = record { takes = takes_after taken a b c kept whole.takes; end = whole.end; few = whole.few }
 
-of_taken_after : {taken : List ℕ} (commands : List Command) {a b : Option (List ℕ)} (c : Option (List ℕ)) → Keeps a b → AreOfTaken taken commands b c → AreOfTaken taken commands a c
-of_taken_after commands c kept (rest, inl whole) = (rest, inl whole)
-of_taken_after commands c kept (rest, inr (ends, are)) = (rest, inr (whole_after c kept ends, are))
+of_taken_after : {taken : List ℕ} (requests : List Request) {a b : Option (List ℕ)} (c : Option (List ℕ)) → Keeps a b → AreOfTaken taken requests b c → AreOfTaken taken requests a c
+of_taken_after requests c kept (rest, inl whole) = (rest, inl whole)
+of_taken_after requests c kept (rest, inr (ends, are)) = (rest, inr (whole_after c kept ends, are))
 
 -- no byte was taken since
 nothing_after : (taken : List ℕ) (a b c : Option (List ℕ)) → Keeps a b → Takes taken b c → IsSome c × (c ≡ a) → IsSome c × (c ≡ b)
@@ -205,26 +204,26 @@ module _ {D : Type 0} {d : Ghosts D} where
   looked_none at = record { at = at; same = refl; pages = 0; are = refl; few = omega arith }
 
   -- what one more reads
-  read_by_more : {held : Held} {state : State} {commands : List Command} {store : Store} {first now next : D} (command : Command) → HasLookedUp d held state commands store first now →
-      ReadsWithin d command store now next → (pages : ℕ) × ReadForAll held state (commands ++ command ∷ []) pages × (d.reads next ≤ d.reads first + pages)
-  read_by_more {held = held} {state = state} {commands = commands} {first = first} {now = now} command looked reads =
+  read_by_more : {held : Held} {state : State} {requests : List Request} {store : Store} {first now next : D} (request : Request) → HasLookedUp d held state requests store first now →
+      ReadsRequestWithin d request store now next → (pages : ℕ) × ReadForAll held state (requests ++ request ∷ []) pages × (d.reads next ≤ d.reads first + pages)
+  read_by_more {held = held} {state = state} {requests = requests} {first = first} {now = now} request looked reads =
       let (own, few, of_it) = reads state looked.at in
       let before : d.reads now ≤ d.reads first + looked.pages = looked.few in (
         looked.pages + own,
-        read_more held state commands command looked.pages own looked.are (subst (λ (h : Held). ReadsFor h state command own) looked.same of_it),
+        read_more held state requests request looked.pages own looked.are (subst (λ (h : Held). ReadsForRequest h state request own) looked.same of_it),
         omega (arith, before, few),
       )
 
   -- one more is answered
-  looked_more : {held : Held} {state : State} {commands : List Command} {store store' : Store} {first now next : D} (command : Command) → HasLookedUp d held state commands store first now →
-      HoldsOn d store store' now next → ReadsWithin d command store now next → IsSome (d.contents next) → HasLookedUp d held state (commands ++ command ∷ []) store' first next
-  looked_more {state = state} {store = store} {store' = store'} {now = now} {next = next} command looked holds reads told =
-      let (pages, are, few) = read_by_more command looked reads in
+  looked_more : {held : Held} {state : State} {requests : List Request} {store store' : Store} {first now next : D} (request : Request) → HasLookedUp d held state requests store first now →
+      HoldsOn d store store' now next → ReadsRequestWithin d request store now next → IsSome (d.contents next) → HasLookedUp d held state (requests ++ request ∷ []) store' first next
+  looked_more {state = state} {store = store} {store' = store'} {now = now} {next = next} request looked holds reads told =
+      let (pages, are, few) = read_by_more request looked reads in
       record { at = held_on d store store' now next holds state looked.at told; same = looked.same; pages = pages; are = are; few = few }
 
   -- while the disk is left
-  looked_beside : {held : Held} {state : State} {commands : List Command} {store : Store} {first now next : D} {P : Option (List ℕ) → Type 0} → LeavesAreas d now next P → IsSome (d.contents next) →
-      HasLookedUp d held state commands store first now → HasLookedUp d held state commands store first next
+  looked_beside : {held : Held} {state : State} {requests : List Request} {store : Store} {first now next : D} {P : Option (List ℕ) → Type 0} → LeavesAreas d now next P → IsSome (d.contents next) →
+      HasLookedUp d held state requests store first now → HasLookedUp d held state requests store first next
   looked_beside {first = first} {now = now} {next = next} leaves told looked = record {
     at = at_beside leaves told looked.at;
     same = looked.same;
@@ -233,19 +232,19 @@ module _ {D : Type 0} {d : Ghosts D} where
     few = let same : d.reads next ≡ d.reads now = leaves.reads_stay in let before : d.reads now ≤ d.reads first + looked.pages = looked.few in omega (arith, same, before);
   }
 
-  read_of : {held : Held} {state : State} {commands : List Command} {store : Store} {first now : D} → HasLookedUp d held state commands store first now →
-      (pages : ℕ) × ReadForAll held state commands pages × (d.reads now ≤ d.reads first + pages)
+  read_of : {held : Held} {state : State} {requests : List Request} {store : Store} {first now : D} → HasLookedUp d held state requests store first now →
+      (pages : ℕ) × ReadForAll held state requests pages × (d.reads now ≤ d.reads first + pages)
   read_of looked = (looked.pages, looked.are, looked.few)
 
   -- what those of a script read
-  read_given : {held : Held} {state : State} {script : Script} {taken : List ℕ} {commands : List Command} {first now : D} → HasGivenIn script taken commands (d.beside first).input (d.beside now).input →
-      (AreLookups commands → (pages : ℕ) × ReadForAll held state commands pages × (d.reads now ≤ d.reads first + pages)) → ReadsLookups d 0 held state first now
-  read_given {script = script} {taken = taken} {commands = commands} {first = first} {now = now} given read = record {
+  read_given : {held : Held} {state : State} {script : Requests} {taken : List ℕ} {requests : List Request} {first now : D} → HasGivenRequestsIn script taken requests (d.beside first).input (d.beside now).input →
+      (AreLookups requests → (pages : ℕ) × ReadForAll held state requests pages × (d.reads now ≤ d.reads first + pages)) → ReadsLookups d 0 held state first now
+  read_given {script = script} {taken = taken} {requests = requests} {first = first} {now = now} given read = record {
     taken = taken;
     takes = given.takes;
-    commands = commands;
-    first = first_given script taken commands (d.beside first).input (d.beside now).input given;
-    whole = of_taken script taken commands (d.beside first).input (d.beside now).input given;
+    requests = requests;
+    first = first_given script taken requests (d.beside first).input (d.beside now).input given;
+    whole = of_taken script taken requests (d.beside first).input (d.beside now).input given;
     few = λ all. let (pages, are, few) = read all in (pages, are, omega (arith, few));
   }
 
@@ -254,7 +253,7 @@ module _ {D : Type 0} {d : Ghosts D} where
   read_nothing {a = a} {b = b} pages kept few = record {
     taken = [];
     takes = takes_after [] (d.beside a).input (d.beside b).input (d.beside b).input kept (takes_nothing (d.beside b).input);
-    commands = [];
+    requests = [];
     first = first_none (d.beside b).input;
     whole = none_of_taken (d.beside a).input (d.beside b).input;
     few = λ all. (0, refl, omega (arith, few));
@@ -263,65 +262,65 @@ module _ {D : Type 0} {d : Ghosts D} where
   -- Commands that came, and their turns:
 
   -- before the first
-  pub conversing_none : {a : D} {script : Script} {store : Store} {block : List ℕ} → block ≡ [] → HasGivenIn script [] [] (d.beside a).input (d.beside a).input →
+  pub conversing_none : {a : D} {script : Requests} {store : Store} {block : List ℕ} → block ≡ [] → HasGivenRequestsIn script [] [] (d.beside a).input (d.beside a).input →
       IsConversing d store [] [] script store block a a
   conversing_none none given = record {
     given = given;
     goes = none_goes;
     served = λ state at told. ([], refl, served_none at none);
-    emptied = λ state at told ends. absurd (no_last ends.0 Checkpoint ends.1);
+    emptied = λ state at told ends. absurd (no_last ends.0 (Single Checkpoint) ends.1);
     unbegun = λ is. (none, none_left);
     looked = λ all state at told. looked_none at;
   }
 
-  -- the commands of a script with one more
-  with_command : {begun : Store} {taken : List ℕ} {commands : List Command} {old new : Script} {store : Store} {block : List ℕ} {first now : D} (command : Command) (next : D) → new.ended ≡ old.ended →
-      IsConversing d begun taken commands old store block first now → HasGiven new taken (commands ++ command ∷ []) → TakesNone d now next →
-      HasGivenIn new taken (commands ++ command ∷ []) (d.beside first).input (d.beside next).input
-  with_command command next same talk given takes = given_kept (d.beside next).input (in_input same talk.given given) takes.input_stays
+  -- the requests of a script with one more
+  with_request : {begun : Store} {taken : List ℕ} {requests : List Request} {old new : Requests} {store : Store} {block : List ℕ} {first now : D} (request : Request) (next : D) → new.script.ended ≡ old.script.ended →
+      IsConversing d begun taken requests old store block first now → HasGivenRequests new taken (requests ++ request ∷ []) → TakesNone d now next →
+      HasGivenRequestsIn new taken (requests ++ request ∷ []) (d.beside first).input (d.beside next).input
+  with_request {old = old} {new = new} request next same talk given takes = given_kept (d.beside next).input (in_requests old new same talk.given given) takes.input_stays
 
-  -- one command more is answered
-  pub conversing_more : {begun : Store} {taken : List ℕ} {commands : List Command} {old new : Script} {store store' : Store} {block block' : List ℕ} {first now next : D} (command : Command) →
-      new.ended ≡ old.ended → IsConversing d begun taken commands old store block first now → HasGiven new taken (commands ++ command ∷ []) → TakesNone d now next →
-      AnswersNext d command store store' block block' now next → (is_lookup command ≡ true → HoldsOn d store store' now next) → (is_lookup command ≡ true → ReadsWithin d command store now next) →
-      IsConversing d begun taken (commands ++ command ∷ []) new store' block' first next
-  conversing_more {commands = commands} {first = first} {next = next} command same talk given takes answers holds reads = record {
-    given = with_command command next same talk given takes;
+  -- one request more is answered
+  pub conversing_more : {begun : Store} {taken : List ℕ} {requests : List Request} {old new : Requests} {store store' : Store} {block block' : List ℕ} {first now next : D} (request : Request) →
+      new.script.ended ≡ old.script.ended → IsConversing d begun taken requests old store block first now → HasGivenRequests new taken (requests ++ request ∷ []) → TakesNone d now next →
+      AnswersNext d request store store' block block' now next → (is_lookup_request request ≡ true → HoldsOn d store store' now next) → (is_lookup_request request ≡ true → ReadsRequestWithin d request store now next) →
+      IsConversing d begun taken (requests ++ request ∷ []) new store' block' first next
+  conversing_more {requests = requests} {first = first} {next = next} request same talk given takes answers holds reads = record {
+    given = with_request request next same talk given takes;
     goes = goes_then talk.goes (takes_goes takes);
     served = λ state at told.
         let (turns, are, served) = talk.served state at (takes.told told) in
         let (turn, is, more, log) = answers first state turns served told in (
           turns ++ turn ∷ [],
-          commands_more turns turn ∙ ap (λ (cs : List Command). cs ++ turn.command ∷ []) are ∙ ap (λ (c : Command). commands ++ c ∷ []) is,
+          requests_more turns turn ∙ ap (λ (rs : List Request). rs ++ turn.request ∷ []) are ∙ ap (λ (c : Request). requests ++ c ∷ []) is,
           more,
         );
     emptied = λ state at told ends.
         let (turns, are, served) = talk.served state at (takes.told told) in
         let (turn, is, more, log) = answers first state turns served told in
-        log (last_one ends.0 commands Checkpoint command ends.1);
-    unbegun = λ is. absurd (not_none commands command is);
+        log (last_one ends.0 requests (Single Checkpoint) request ends.1);
+    unbegun = λ is. absurd (not_none requests request is);
     looked = λ all state at told.
-        let (some, one) = lookups_but_last commands command all in
-        looked_more command (talk.looked some state at (takes.told told)) (holds one) (reads one) told;
+        let (some, one) = lookups_but_last requests request all in
+        looked_more request (talk.looked some state at (takes.told told)) (holds one) (reads one) told;
   }
 
-  -- the same commands, in other words
-  pub conversing_as : {begun : Store} {taken : List ℕ} {commands : List Command} {script : Script} {store : Store} {block : List ℕ} {first now : D} (same : List Command) → commands ≡ same →
-      IsConversing d begun taken commands script store block first now → IsConversing d begun taken same script store block first now
+  -- the same requests, in other words
+  pub conversing_as : {begun : Store} {taken : List ℕ} {requests : List Request} {script : Requests} {store : Store} {block : List ℕ} {first now : D} (same : List Request) → requests ≡ same →
+      IsConversing d begun taken requests script store block first now → IsConversing d begun taken same script store block first now
   conversing_as {begun = begun} {taken = taken} {script = script} {store = store} {block = block} {first = first} {now = now} same is talk =
-      subst (λ (cs : List Command). IsConversing d begun taken cs script store block first now) is talk
+      subst (λ (rs : List Request). IsConversing d begun taken rs script store block first now) is talk
 
   -- the script looked for one more, and there was none
-  pub conversing_drained : {begun : Store} {taken : List ℕ} {commands : List Command} {old new : Script} {store : Store} {block : List ℕ} {first now : D} → new.ended ≡ old.ended →
-      IsConversing d begun taken commands old store block first now → HasGiven new taken commands → IsConversing d begun taken commands new store block first now
-  conversing_drained same talk given = record { given = in_input same talk.given given; goes = talk.goes; served = talk.served; emptied = talk.emptied; unbegun = talk.unbegun; looked = talk.looked }
+  pub conversing_drained : {begun : Store} {taken : List ℕ} {requests : List Request} {old new : Requests} {store : Store} {block : List ℕ} {first now : D} → new.script.ended ≡ old.script.ended →
+      IsConversing d begun taken requests old store block first now → HasGivenRequests new taken requests → IsConversing d begun taken requests new store block first now
+  conversing_drained {old = old} {new = new} same talk given = record { given = in_requests old new same talk.given given; goes = talk.goes; served = talk.served; emptied = talk.emptied; unbegun = talk.unbegun; looked = talk.looked }
 
   -- the block is given
-  pub conversing_given : {begun : Store} {taken : List ℕ} {commands : List Command} {script : Script} {store : Store} {block left : List ℕ} {first now next : D} →
-      IsConversing d begun taken commands script store block first now → left ≡ [] → Given block (Ok tt) (d.beside now) (d.beside next) → GivesAlone d block now next →
-      IsConversing d begun taken commands script store left first next
-  conversing_given {taken = taken} {commands = commands} {script = script} {first = first} talk none gave alone = record {
-    given = subst (λ (i : Option (List ℕ)). HasGivenIn script taken commands (d.beside first).input i) (sym alone.input_stays) talk.given;
+  pub conversing_given : {begun : Store} {taken : List ℕ} {requests : List Request} {script : Requests} {store : Store} {block left : List ℕ} {first now next : D} →
+      IsConversing d begun taken requests script store block first now → left ≡ [] → Given block (Ok tt) (d.beside now) (d.beside next) → GivesAlone d block now next →
+      IsConversing d begun taken requests script store left first next
+  conversing_given {taken = taken} {requests = requests} {script = script} {first = first} talk none gave alone = record {
+    given = subst (λ (i : Option (List ℕ)). HasGivenRequestsIn script taken requests (d.beside first).input i) (sym alone.input_stays) talk.given;
     goes = goes_then talk.goes (leaves_goes alone.areas);
     served = λ state at told.
         let (turns, are, served) = talk.served state at ((leaves_goes alone.areas).told told) in
@@ -332,9 +331,9 @@ module _ {D : Type 0} {d : Ghosts D} where
   }
 
   -- more input was asked for
-  pub conversing_filled : {begun : Store} {taken more : List ℕ} {commands : List Command} {old new : Script} {store : Store} {block : List ℕ} {first now next : D} →
-      IsConversing d begun taken commands old store block first now → HasGivenIn new more commands (d.beside first).input (d.beside next).input → TakesAlone d now next →
-      IsConversing d begun more commands new store block first next
+  pub conversing_filled : {begun : Store} {taken more : List ℕ} {requests : List Request} {old new : Requests} {store : Store} {block : List ℕ} {first now next : D} →
+      IsConversing d begun taken requests old store block first now → HasGivenRequestsIn new more requests (d.beside first).input (d.beside next).input → TakesAlone d now next →
+      IsConversing d begun more requests new store block first next
   conversing_filled {block = block} {first = first} {now = now} {next = next} talk given takes = record {
     given = given;
     goes = goes_then talk.goes (leaves_goes takes.areas);
@@ -361,21 +360,21 @@ module _ {D : Type 0} {d : Ghosts D} where
         | inr shown ↦ shown
       ]
 
-  -- a run of turns of the first commands that came
-  serves_from : {begun : Store} {state : State} {turns : List Turn} {first now : D} {script : Script} {taken : List ℕ} {commands : List Command} (rest : List Command) (status : Status) → HasClock d →
-      IsAt d begun first state → HasRun d state turns first now → commands_of turns ++ rest ≡ commands → HasGivenIn script taken commands (d.beside first).input (d.beside now).input →
+  -- a run of turns of the first requests that came
+  serves_from : {begun : Store} {state : State} {turns : List Turn} {first now : D} {script : Requests} {taken : List ℕ} {requests : List Request} (rest : List Request) (status : Status) → HasClock d →
+      IsAt d begun first state → HasRun d state turns first now → requests_of turns ++ rest ≡ requests → HasGivenRequestsIn script taken requests (d.beside first).input (d.beside now).input →
       EndsServing turns taken status (d.beside first) (d.beside now) →
       (EndsBetween status → LeavesMoments d now (ShowsBetween (d.beside first).output state turns)) →
-      (status ≡ Done → ((i : Image) → d.may_leave now i → Recovers i (Some (state_after state turns))) × (EndsWithCheckpoint (commands_of turns) → HasEmptyLog d now)) → ServesFrom d state status first now
-  serves_from {state = state} {turns = turns} {first = first} {now = now} {script = script} {taken = taken} {commands = commands} rest status clock at run are given ends between last =
+      (status ≡ Done → ((i : Image) → d.may_leave now i → Recovers i (Some (state_after state turns))) × (EndsWithCheckpoint (requests_of turns) → HasEmptyLog d now)) → ServesFrom d state status first now
+  serves_from {state = state} {turns = turns} {first = first} {now = now} {script = script} {taken = taken} {requests = requests} rest status clock at run are given ends between last =
       let time = shows_moments d first now state turns run.time in
       record {
         turns = turns;
         run = run.run;
         taken = taken;
         takes = given.takes;
-        first = first_of taken (commands_of turns) rest commands (d.beside now).input are (first_given script taken commands (d.beside first).input (d.beside now).input given);
-        whole = first_of_taken taken (commands_of turns) rest commands are (of_taken script taken commands (d.beside first).input (d.beside now).input given);
+        first = first_of taken (requests_of turns) rest requests (d.beside now).input are (first_given script taken requests (d.beside first).input (d.beside now).input given);
+        whole = first_of_taken taken (requests_of turns) rest requests are (of_taken script taken requests (d.beside first).input (d.beside now).input given);
         time = time;
         ends = ends;
         left = left_moments clock (λ i left. at_image at left) time;
@@ -396,41 +395,41 @@ module _ {D : Type 0} {d : Ghosts D} where
   stopped_ends NotAStore next goes stopped = absurd stopped
   stopped_ends TooMuch next goes stopped = absurd stopped
 
-  -- a command isn't answered
-  pub converses_stopped : {begun : Store} {taken : List ℕ} {commands : List Command} {old new : Script} {store : Store} {block : List ℕ} {first now next : D} (command : Command) (status : Status) →
-      HasClock d → new.ended ≡ old.ended → IsConversing d begun taken commands old store block first now → HasGiven new taken (commands ++ command ∷ []) → TakesNone d now next →
-      BeginsNext d command status store block now next → IsUnanswered d status now next → (is_lookup command ≡ true → ReadsWithin d command store now next) → Converses d begun status first next
-  converses_stopped {commands = commands} {first = first} {next = next} command status clock same talk given takes begins stopped reads =
-      let came = with_command command next same talk given takes in
+  -- a request isn't answered
+  pub converses_stopped : {begun : Store} {taken : List ℕ} {requests : List Request} {old new : Requests} {store : Store} {block : List ℕ} {first now next : D} (request : Request) (status : Status) →
+      HasClock d → new.script.ended ≡ old.script.ended → IsConversing d begun taken requests old store block first now → HasGivenRequests new taken (requests ++ request ∷ []) → TakesNone d now next →
+      BeginsNext d request status store block now next → IsUnanswered d status now next → (is_lookup_request request ≡ true → ReadsRequestWithin d request store now next) → Converses d begun status first next
+  converses_stopped {requests = requests} {first = first} {next = next} request status clock same talk given takes begins stopped reads =
+      let came = with_request request next same talk given takes in
       record {
         from = λ state at told.
             let (turns, are, served) = talk.served state at (takes.told told) in
             let (short, begun_so) = begins first state turns served told in
             let (ends, not_done) = stopped_serving status begun_so.turns _ (d.beside first) (d.beside next) short in
-            serves_from begun_so.rest status clock at begun_so.run (begun_so.parts ∙ ap (λ (cs : List Command). cs ++ command ∷ []) are) came ends begun_so.between (λ is. absurd (not_done is));
+            serves_from begun_so.rest status clock at begun_so.run (begun_so.parts ∙ ap (λ (rs : List Request). rs ++ request ∷ []) are) came ends begun_so.between (λ is. absurd (not_done is));
         cause = stopped_ends status next talk.goes stopped;
         bounded = few came;
         goes = goes_then talk.goes (takes_goes takes);
-        untaken = λ none. absurd (not_none commands command (none_came came none));
+        untaken = λ none. absurd (not_none requests request (none_came came none));
         reads = λ state at told. read_given came (λ all.
-            let (some, one) = lookups_but_last commands command all in
-            read_by_more command (talk.looked some state at (takes.told told)) (reads one));
+            let (some, one) = lookups_but_last requests request all in
+            read_by_more request (talk.looked some state at (takes.told told)) (reads one));
       }
 
   -- the block isn't given
-  pub converses_blocked : {begun : Store} {taken : List ℕ} {commands : List Command} {script : Script} {store : Store} {block : List ℕ} {first now next : D} (stop : GiveError) → HasClock d →
-      IsConversing d begun taken commands script store block first now → Given block (Err stop) (d.beside now) (d.beside next) → GivesAlone d block now next →
+  pub converses_blocked : {begun : Store} {taken : List ℕ} {requests : List Request} {script : Requests} {store : Store} {block : List ℕ} {first now next : D} (stop : GiveError) → HasClock d →
+      IsConversing d begun taken requests script store block first now → Given block (Err stop) (d.beside now) (d.beside next) → GivesAlone d block now next →
       Converses d begun (status_of_give_error stop) first next
-  converses_blocked {taken = taken} {commands = commands} {script = script} {block = block} {first = first} {now = now} {next = next} stop clock talk gave alone =
+  converses_blocked {taken = taken} {requests = requests} {script = script} {block = block} {first = first} {now = now} {next = next} stop clock talk gave alone =
       let status = status_of_give_error stop in
-      let came : HasGivenIn script taken commands (d.beside first).input (d.beside next).input =
-      subst (λ (i : Option (List ℕ)). HasGivenIn script taken commands (d.beside first).input i) (sym alone.input_stays) talk.given
+      let came : HasGivenRequestsIn script taken requests (d.beside first).input (d.beside next).input =
+      subst (λ (i : Option (List ℕ)). HasGivenRequestsIn script taken requests (d.beside first).input i) (sym alone.input_stays) talk.given
       in
       record {
         from = λ state at told.
             let (turns, are, served) = talk.served state at ((leaves_goes alone.areas).told told) in
             let (ends, not_done) = stopped_serving status turns taken (d.beside first) (d.beside next) (stops_giving stop) in
-            serves_from [] status clock at (run_block served alone) (append-nil (commands_of turns) ∙ are) came ends (λ between. between_block clock served alone) (λ is. absurd (not_done is));
+            serves_from [] status clock at (run_block served alone) (append-nil (requests_of turns) ∙ are) came ends (λ between. between_block clock served alone) (λ is. absurd (not_done is));
         cause = stopped_ends status next talk.goes (block_stopped d now next block stop gave);
         bounded = few came;
         goes = goes_then talk.goes (leaves_goes alone.areas);
@@ -439,12 +438,12 @@ module _ {D : Type 0} {d : Ghosts D} where
       }
 
   -- memory runs out
-  pub converses_starved : {begun : Store} {taken : List ℕ} {commands : List Command} {script : Script} {store : Store} {block : List ℕ} {first now : D} → HasClock d →
-      IsConversing d begun taken commands script store block first now → Converses d begun NoMemory first now
+  pub converses_starved : {begun : Store} {taken : List ℕ} {requests : List Request} {script : Requests} {store : Store} {block : List ℕ} {first now : D} → HasClock d →
+      IsConversing d begun taken requests script store block first now → Converses d begun NoMemory first now
   converses_starved clock talk = record {
     from = λ state at told.
         let (turns, are, served) = talk.served state at told in
-        serves_from [] NoMemory clock at served.run (append-nil (commands_of turns) ∙ are) talk.given tt (λ between. between_served clock served) (λ is. absurd (cc is));
+        serves_from [] NoMemory clock at served.run (append-nil (requests_of turns) ∙ are) talk.given tt (λ between. between_served clock served) (λ is. absurd (cc is));
     cause = tt;
     bounded = few talk.given;
     goes = talk.goes;
@@ -452,17 +451,17 @@ module _ {D : Type 0} {d : Ghosts D} where
     reads = λ state at told. read_given talk.given (λ all. read_of (talk.looked all state at told));
   }
 
-  -- all commands are answered
-  pub converses_done : {begun : Store} {taken : List ℕ} {commands : List Command} {script : Script} {store : Store} {block : List ℕ} {first now : D} → HasClock d →
-      IsConversing d begun taken commands script store block first now → block ≡ [] → script.ended ≡ true → AreCommands taken commands → Converses d begun Done first now
+  -- all requests are answered
+  pub converses_done : {begun : Store} {taken : List ℕ} {requests : List Request} {script : Requests} {store : Store} {block : List ℕ} {first now : D} → HasClock d →
+      IsConversing d begun taken requests script store block first now → block ≡ [] → script.script.ended ≡ true → AreRequests taken requests → Converses d begun Done first now
   converses_done {taken = taken} {first = first} {now = now} clock talk none ended all =
       let (end, short) = talk.given.end ended in
       let whole : EndsWhole taken (d.beside first).input (d.beside now).input = record { takes = talk.given.takes; end = end; few = short } in
       record {
         from = λ state at told.
             let (turns, are, served) = talk.served state at told in
-            serves_from [] Done clock at served.run (append-nil (commands_of turns) ∙ are) talk.given
-            (whole, subst (λ (cs : List Command). AreCommands taken cs) (sym are) all, all_given served none)
+            serves_from [] Done clock at served.run (append-nil (requests_of turns) ∙ are) talk.given
+            (whole, subst (λ (rs : List Request). AreRequests taken rs) (sym are) all, all_given served none)
             (λ between. between_served clock served)
             (λ is. (λ i left. at_image served.at left, λ ends. talk.emptied state at told (subst EndsWithCheckpoint are ends)));
         cause = (taken, whole);
@@ -473,15 +472,15 @@ module _ {D : Type 0} {d : Ghosts D} where
       }
 
   -- the input gave no more
-  pub converses_unfilled : {begun : Store} {taken : List ℕ} {commands : List Command} {script : Script} {store : Store} {block : List ℕ} {first now next : D} (error : ScriptError) → HasClock d →
-      IsConversing d begun taken commands script store block first next → block ≡ [] → (d.beside first).in_faults ≤ (d.beside now).in_faults →
-      (error ≡ scripts.Read → Rose (d.beside now).in_faults (d.beside next).in_faults) → Stops error script [] commands (d.beside first).input (d.beside next).input →
+  pub converses_unfilled : {begun : Store} {taken : List ℕ} {requests : List Request} {script : Requests} {store : Store} {block : List ℕ} {first now next : D} (error : ScriptError) → HasClock d →
+      IsConversing d begun taken requests script store block first next → block ≡ [] → (d.beside first).in_faults ≤ (d.beside now).in_faults →
+      (error ≡ scripts.Read → Rose (d.beside now).in_faults (d.beside next).in_faults) → StopsRequests error script [] requests (d.beside first).input (d.beside next).input →
       Converses d begun (status_of_script error) first next
   converses_unfilled {first = first} {now = now} {next = next} scripts.Read clock talk none earlier rose (more, given, short, stops) = record {
     from = λ state at told.
         let (turns, are, served) = talk.served state at told in
-        serves_from [] ReadFault clock at served.run (append-nil (commands_of turns) ∙ are) given
-        (short, subst (λ (cs : List Command). AreWhole more cs) (sym are) stops.whole, all_given served none) (λ between. between_served clock served) (λ is. absurd (cc is));
+        serves_from [] ReadFault clock at served.run (append-nil (requests_of turns) ∙ are) given
+        (short, subst (λ (rs : List Request). AreWholeRequests more rs) (sym are) stops.whole, all_given served none) (λ between. between_served clock served) (λ is. absurd (cc is));
     cause = (rose_since (d.beside first).in_faults (d.beside now).in_faults (d.beside next).in_faults earlier (rose refl), more, short, stops.takes);
     bounded = few given;
     goes = talk.goes;
@@ -491,8 +490,8 @@ module _ {D : Type 0} {d : Ghosts D} where
   converses_unfilled scripts.TooMuch clock talk none earlier rose (more, given, long, stops) = record {
     from = λ state at told.
         let (turns, are, served) = talk.served state at told in
-        serves_from [] TooMuch clock at served.run (append-nil (commands_of turns) ∙ are) given
-        (long, subst (λ (cs : List Command). AreWhole more cs) (sym are) stops.whole, all_given served none) (λ between. between_served clock served) (λ is. absurd (cc is));
+        serves_from [] TooMuch clock at served.run (append-nil (requests_of turns) ∙ are) given
+        (long, subst (λ (rs : List Request). AreWholeRequests more rs) (sym are) stops.whole, all_given served none) (λ between. between_served clock served) (λ is. absurd (cc is));
     cause = (more, long, stops.takes);
     bounded = few given;
     goes = talk.goes;
@@ -562,7 +561,7 @@ module _ {D : Type 0} {d : Ghosts D} where
         taken = from.taken;
         takes = takes_after from.taken (d.beside a).input (d.beside b).input (d.beside c).input input from.takes;
         first = from.first;
-        whole = of_taken_after (commands_of from.turns) (d.beside c).input input from.whole;
+        whole = of_taken_after (requests_of from.turns) (d.beside c).input input from.whole;
         time = elapsed_then {P = ShowsMoment (d.beside a).output state from.turns}
             (elapsed_weaker still.time (λ s h. (
               [],
@@ -604,17 +603,17 @@ module _ {D : Type 0} {d : Ghosts D} where
       let same : keeps.image ≡ was = same_some (sym ((keeps.step).settled).here ∙ settled.here) in
       hold_one (replay was) at.held held ((begun.records).saved, subst (λ (i : Image). HoldsBy (replay i) (begun.records).saved at.held) same keeps.holds) holds
 
-  -- the pages of opening, and behind them those of the commands
+  -- the pages of opening, and behind them those of the requests
   opened_reads : {a b c : D} {held held' : Held} {state : State} (pages : ℕ) → IsStill d a b → held' ≡ held → d.reads b ≤ d.reads a + pages → ReadsLookups d 0 held' state b c → ReadsLookups d pages held state a c
   opened_reads {a = a} {b = b} {c = c} {state = state} pages still same first from = record {
     taken = from.taken;
     takes = takes_after from.taken (d.beside a).input (d.beside b).input (d.beside c).input still.beside_stays.input from.takes;
-    commands = from.commands;
+    requests = from.requests;
     first = from.first;
-    whole = of_taken_after from.commands (d.beside c).input still.beside_stays.input from.whole;
+    whole = of_taken_after from.requests (d.beside c).input still.beside_stays.input from.whole;
     few = λ all.
         let (own, are, few) = from.few all in
-        (own, subst (λ (h : Held). ReadForAll h state from.commands own) same are, omega (arith, first, few));
+        (own, subst (λ (h : Held). ReadForAll h state from.requests own) same are, omega (arith, first, few));
   }
 
   pub serves_opened : {a b c : D} {begun : Store} (status : Status) → IsStill d a b → ((was : Image) (state : State) → IsSettled d a was → Recovers was (Some state) → IsAt d begun b state) →

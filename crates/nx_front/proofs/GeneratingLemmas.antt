@@ -6,6 +6,7 @@ use Rattle.std.specs.Ordering.{is_eq}
 use Rattle.std.specs.List.{count_by}
 use Rattle.std.specs.FinMap.{find, entries, get-entries}
 use Rattle.std.proofs.lemmas.Bool.{false≢true}
+use Rattle.std.proofs.lemmas.List.{length-map}
 use Rattle.std.proofs.lemmas.List.Sums.{sum_by_push, count_by-le-length}
 use Rattle.std.proofs.lemmas.Map.Text.{is_eq-slice_cmp}
 use Rattle.nx_host.specs.declared.disk.Disk.{Ghosts}
@@ -21,21 +22,26 @@ use Rattle.nx_pyx.specs.Text.{text}
 use Rattle.nx_cuts.specs.Cut.{CutTree, tree_of}
 use Rattle.nx_script.specs.declared.command.Command.{Command}
 use Rattle.nx_script.specs.declared.command.Command.TheVariants.{Export}
+use Rattle.nx_script.specs.declared.request.Request.{Request}
+use Rattle.nx_script.specs.declared.request.Request.TheVariants.{Single}
+use Rattle.nx_script.specs.declared.request.Answer.{Answer}
+use Rattle.nx_script.specs.declared.request.Answer.TheVariants.{One, All, RefusedAt}
 use Rattle.nx_script.specs.declared.reply.Reply.{Reply}
 use Rattle.nx_script.specs.declared.reply.Reply.TheVariants as reply
 use Rattle.nx_script.specs.declared.reply.ReplyError.TheVariants.{NoDocument}
-use Rattle.nx_script.specs.Field.{name_order}
-use Rattle.nx_gen.specs.Commands.{gen_name, commands}
+use Rattle.nx_pyx.specs.DocumentName.{name_order}
+use Rattle.nx_gen.specs.Commands.{gen_name}
 use Rattle.nx_records.specs.Records.{HasHeader}
 use Rattle.nx_state.specs.State.{State, document_size}
 use Rattle.nx_state.specs.Stands.{Recovers}
 use Rattle.nx_steps.specs.Answers.{Answers, Refuses, cut_document_line}
 use Rattle.nx_steps.specs.Step.{Step, FindsNoRoom}
+use Rattle.nx_steps.specs.Requests.{is_refused, RequestStep}
+use Rattle.nx_store.specs.Store.{IsApplied, IsAt, IsOf, IsOfEither, Shows, TakesNone, NotOpened}
 use Rattle.nx_store.specs.declared.store.Store.{Store}
 use Rattle.nx_store.specs.declared.error.EngineError.{EngineError}
 use Rattle.nx_store.specs.declared.error.EngineError.TheVariants as engine
 use Rattle.nx_store.specs.Told.{line_of}
-use Rattle.nx_store.specs.Store.{IsAt, IsOf, IsOfEither, Shows, IsApplied, TakesNone, NotOpened}
 use Rattle.nx_store.proofs.AtLemmas.{at_image}
 use Rattle.nx_store.proofs.FoundLemmas.{at_lines}
 use Rattle.nx_store.proofs.ShowLemmas.{shows_then}
@@ -43,17 +49,17 @@ use Rattle.nx_filters.specs.declared.status.Status.{Status}
 use Rattle.nx_filters.specs.declared.status.Status.TheVariants.{Done, Usage, Refused, DiskFault, ReadFault, WriteFault, NoMemory, NotAStore, Damaged, TooMuch}
 use Rattle.nx_filters.specs.Outcome.{TakesFew, CountsGrow}
 use Rattle.nx_filters.proofs.OutcomeLemmas.{rose_since, told_at_first, kept_appends, keeps_of}
-use Rattle.nx_front.specs.Turns.{Turn, IsRun, state_after, commands_of, replies_of, IsAfterSome}
+use Rattle.nx_front.specs.Turns.{Turn, IsRun, state_after, requests_of, replies_of, IsAfterSome}
 use Rattle.nx_front.specs.Serving.{LeavesMoments, EndsWell, EndsWithoutHeader}
 use Rattle.nx_front.specs.Conversation.{IsUnanswered, status_of_engine}
 use Rattle.nx_front.specs.Init.{exists_line, SaysLine, IsUntroubled}
-use Rattle.nx_front.specs.Generating.{generated, is_refused, text_size, summary_text, ShowsGenerating, EndsGenerating, GeneratesFrom, EndsFinding, FindsGenerated, GeneratesIn, IsGenerationCaused, Generates, EndsRefusing, CompletesGenerating}
+use Rattle.nx_front.specs.Generating.{generated, generated_requests, is_refused_alone, text_size, summary_text, ShowsGenerating, EndsGenerating, GeneratesFrom, EndsFinding, FindsGenerated, GeneratesIn, IsGenerationCaused, Generates, EndsRefusing, CompletesGenerating}
 use Rattle.nx_front.specs.Carrying.{listed_nodes, exported_size, HasTurned, IsCarrying, HasCarried, CarriesOut, CutsShort, CarriesSome, StopsCarrying}
 use Rattle.nx_front.proofs.InitLemmas.{line_told}
 use Rattle.nx_front.proofs.ServingLaws.{serving_together}
 use Rattle.nx_front.proofs.ConversationLemmas.{unopened_header}
 use Rattle.nx_front.proofs.ClockLemmas.{HasClock, at_end}
-use Rattle.nx_front.proofs.MomentLemmas.{run_more, after_more, commands_more}
+use Rattle.nx_front.proofs.MomentLemmas.{run_more, after_more, requests_more}
 
 -- Images of the state after some turns:
 
@@ -77,45 +83,50 @@ some_longer state turns turn image (done, rest, is, stands) =
 
 replies_more : (turns : List Turn) (turn : Turn) → replies_of (turns ++ turn ∷ []) ≡ replies_of turns ++ turn.reply ∷ []
 replies_more [] turn = refl
-replies_more (t ∷ ts) turn = ap (λ (rs : List Reply). t.reply ∷ rs) (replies_more ts turn)
+replies_more (t ∷ ts) turn = ap (λ (rs : List Answer). t.reply ∷ rs) (replies_more ts turn)
 
 -- What is told of replies:
 
--- how many bytes of text the last one gives
-abbrev pub last_size : List Reply → ℕ
+-- how many bytes of text the reply to a command that stands alone gives
+abbrev pub size_alone : Answer → ℕ
+size_alone (One reply) = exported_size reply
+size_alone _ = 0
+
+-- ... and the last one
+abbrev pub last_size : List Answer → ℕ
 last_size [] = 0
-last_size (r ∷ []) = exported_size r
+last_size (r ∷ []) = size_alone r
 last_size (r ∷ r' ∷ rs) = last_size (r' ∷ rs)
 
-last_more : (replies : List Reply) (r : Reply) → last_size (replies ++ r ∷ []) ≡ exported_size r
+last_more : (replies : List Answer) (r : Answer) → last_size (replies ++ r ∷ []) ≡ size_alone r
 last_more [] r = refl
 last_more (q ∷ []) r = refl
 last_more (q ∷ q' ∷ replies) r = last_more (q' ∷ replies) r
 
-refused_more : (replies : List Reply) (r : Reply) → count_by is_refused (replies ++ r ∷ []) ≡ count_by is_refused replies + (if is_refused r then 1 else 0)
-refused_more replies r = sum_by_push (λ (q : Reply). cond (is_refused q) 1 0) replies r
+refused_more : (replies : List Answer) (r : Answer) → count_by is_refused_alone (replies ++ r ∷ []) ≡ count_by is_refused_alone replies + (if is_refused_alone r then 1 else 0)
+refused_more replies r = sum_by_push (λ (q : Answer). cond (is_refused_alone q) 1 0) replies r
 
 length_more : {T : Type 0} (xs : List T) (x : T) → length (xs ++ x ∷ []) ≡ length xs + 1
 length_more xs x = length-append xs (x ∷ [])
 
--- the last of turns, by their commands
-last_turn : (turns : List Turn) (before : List Command) (command : Command) → commands_of turns ≡ before ++ command ∷ [] →
-    (others : List Turn) × (turn : Turn) × (turns ≡ others ++ turn ∷ []) × (turn.command ≡ command)
-last_turn [] [] command is = absurd (cc is)
-last_turn [] (b ∷ before) command is = absurd (cc is)
-last_turn (t ∷ []) [] command is = ([], t, refl, (let e : t.command ≡ command = cc is in e))
-last_turn (t ∷ t' ∷ ts) [] command is = absurd (cc is)
-last_turn (t ∷ ts) (b ∷ before) command is =
-    let (others, turn, are, same) = last_turn ts before command (let e : commands_of ts ≡ before ++ command ∷ [] = cc is in e) in
+-- the last of turns, by their requests
+last_turn : (turns : List Turn) (before : List Request) (request : Request) → requests_of turns ≡ before ++ request ∷ [] →
+    (others : List Turn) × (turn : Turn) × (turns ≡ others ++ turn ∷ []) × (turn.request ≡ request)
+last_turn [] [] request is = absurd (cc is)
+last_turn [] (b ∷ before) request is = absurd (cc is)
+last_turn (t ∷ []) [] request is = ([], t, refl, (let e : t.request ≡ request = cc is in e))
+last_turn (t ∷ t' ∷ ts) [] request is = absurd (cc is)
+last_turn (t ∷ ts) (b ∷ before) request is =
+    let (others, turn, are, same) = last_turn ts before request (let e : requests_of ts ≡ before ++ request ∷ [] = cc is in e) in
     (t ∷ others, turn, ap (λ (l : List Turn). t ∷ l) are, same)
 
-run_last : (state : State) (turns : List Turn) (turn : Turn) → IsRun state (turns ++ turn ∷ []) → Step (state_after state turns) turn.command turn.reply turn.next
+run_last : (state : State) (turns : List Turn) (turn : Turn) → IsRun state (turns ++ turn ∷ []) → RequestStep (state_after state turns) turn.request turn.reply turn.next
 run_last state [] turn run = run.0
 run_last state (t ∷ ts) turn run = run_last t.next ts turn run.1
 
 -- an `export` gives the text of the document there is, and leaves the state
-export_gives : (state : State) (r : Reply) (next : State) → Step state (Export gen_name) r next → (next ≡ state) × (exported_size r ≡ option_map_or text_size (generated state) 0)
-export_gives state r next step = by (generated state) step
+export_gives_text : (state : State) (r : Reply) (next : State) → Step state (Export gen_name) r next → (next ≡ state) × (exported_size r ≡ option_map_or text_size (generated state) 0)
+export_gives_text state r next step = by (generated state) step
   where
     by : (o : Option CutTree) →
         MatchOption (option_map_or (λ (document : CutTree). None) o (Some NoDocument))
@@ -125,13 +136,18 @@ export_gives state r next step = by (generated state) step
     by (Some document) (inl (is, same)) = (same, ap exported_size is)
     by (Some document) (inr full) = absurd (false≢true full.needs)
 
--- so the last of these commands gives how many bytes its text has
-size_after : (state : State) (turns : List Turn) (before : List Command) → IsRun state turns → commands_of turns ≡ before ++ Export gen_name ∷ [] →
+export_gives : (state : State) (r : Answer) (next : State) → RequestStep state (Single (Export gen_name)) r next → (next ≡ state) × (size_alone r ≡ option_map_or text_size (generated state) 0)
+export_gives state (One r) next step = export_gives_text state r next step
+export_gives state (All rs) next step = absurd step
+export_gives state (RefusedAt number error) next step = absurd step
+
+-- so the last of these requests gives how many bytes its text has
+size_after : (state : State) (turns : List Turn) (before : List Request) → IsRun state turns → requests_of turns ≡ before ++ Single (Export gen_name) ∷ [] →
     last_size (replies_of turns) ≡ option_map_or text_size (generated (state_after state turns)) 0
 size_after state turns before run are =
-    let (others, turn, is, same) = last_turn turns before (Export gen_name) are in
+    let (others, turn, is, same) = last_turn turns before (Single (Export gen_name)) are in
     let step = run_last state others turn (subst (λ (ts : List Turn). IsRun state ts) is run) in
-    let (stays, size) = export_gives (state_after state others) turn.reply turn.next (subst (λ (c : Command). Step (state_after state others) c turn.reply turn.next) same step) in
+    let (stays, size) = export_gives (state_after state others) turn.reply turn.next (subst (λ (r : Request). RequestStep (state_after state others) r turn.reply turn.next) same step) in
     let last : state_after state turns ≡ state_after state others = ap (λ (ts : List Turn). state_after state ts) is ∙ after_more state others turn ∙ stays in
     ap (λ (ts : List Turn). last_size (replies_of ts)) is ∙ ap last_size (replies_more others turn) ∙ last_more (replies_of others) turn.reply ∙ size
     ∙ ap (λ (t : State). option_map_or text_size (generated t) 0) (sym last)
@@ -177,9 +193,9 @@ module _ {D : Type 0} {d : Ghosts D} where
 
   turned_more : {first now next : D} {state : State} {turns : List Turn} {store store' : Store} (command : Command) (r : Reply) → WritesAlone d first now (λ _. Unit {0}) →
       HasTurned d state turns store first now → IsApplied d (Ok r) (state_after state turns) command store' now next →
-      (turn : Turn) × (turn.command ≡ command) × (turn.reply ≡ r) × HasTurned d state (turns ++ turn ∷ []) store' first next
+      (turn : Turn) × (turn.request ≡ Single command) × (turn.reply ≡ One r) × HasTurned d state (turns ++ turn ∷ []) store' first next
   turned_more {next = next} {state = state} {turns = turns} {store' = store'} command r areas turned (after, step, at, shows, log) =
-      let turn : Turn = record { command = command; reply = r; next = after } in (
+      let turn : Turn = record { request = Single command; reply = One r; next = after } in (
         turn,
         refl,
         refl,
@@ -195,24 +211,24 @@ module _ {D : Type 0} {d : Ghosts D} where
   carrying_none : {a : D} {store : Store} → IsCarrying d store [] [] store a a
   carrying_none = record { areas = none_written; had = λ state at told. ([], refl, refl, turned_none at) }
 
-  carrying_more : {begun store store' : Store} {came : List Command} {replies : List Reply} {first now next : D} (command : Command) (r : Reply) →
+  carrying_more : {begun store store' : Store} {came : List Request} {replies : List Answer} {first now next : D} (command : Command) (r : Reply) →
       IsCarrying d begun came replies store first now → WritesAlone d now next (λ _. Unit {0}) →
       ((state : State) → IsAt d store now state → IsSome (d.contents next) → IsApplied d (Ok r) state command store' now next) →
-      IsCarrying d begun (came ++ command ∷ []) (replies ++ r ∷ []) store' first next
+      IsCarrying d begun (came ++ Single command ∷ []) (replies ++ One r ∷ []) store' first next
   carrying_more {came = came} {replies = replies} command r carried writes applies = record {
     areas = written_alone_then carried.areas writes (λ told i has. tt);
     had = λ state at told.
         let (turns, are, answered, turned) = carried.had state at (writes.told told) in
         let (turn, is, its, more) = turned_more command r carried.areas turned (applies (state_after state turns) turned.at told) in (
           turns ++ turn ∷ [],
-          commands_more turns turn ∙ ap (λ (cs : List Command). cs ++ turn.command ∷ []) are ∙ ap (λ (c : Command). came ++ c ∷ []) is,
-          replies_more turns turn ∙ ap (λ (rs : List Reply). rs ++ turn.reply ∷ []) answered ∙ ap (λ (q : Reply). replies ++ q ∷ []) its,
+          requests_more turns turn ∙ ap (λ (rs : List Request). rs ++ turn.request ∷ []) are ∙ ap (λ (q : Request). came ++ q ∷ []) is,
+          replies_more turns turn ∙ ap (λ (rs : List Answer). rs ++ turn.reply ∷ []) answered ∙ ap (λ (q : Answer). replies ++ q ∷ []) its,
           more,
         );
   }
 
   -- memory runs out between two commands
-  carrying_starved : {begun store : Store} {came all : List Command} {replies : List Reply} {first now : D} (rest : List Command) → IsCarrying d begun came replies store first now →
+  carrying_starved : {begun store : Store} {came all : List Request} {replies : List Answer} {first now : D} (rest : List Request) → IsCarrying d begun came replies store first now →
       came ++ rest ≡ all → StopsCarrying d all engine.Memory begun first now
   carrying_starved rest carried parts state at told =
       let (turns, are, answered, turned) = carried.had state at told in
@@ -221,26 +237,26 @@ module _ {D : Type 0} {d : Ghosts D} where
         turns = turns;
         run = turned.run;
         rest = rest;
-        parts = ap (λ (cs : List Command). cs ++ rest) are ∙ parts;
+        parts = ap (λ (rs : List Request). rs ++ rest) are ∙ parts;
         time = turned.time;
       }
 
   -- a command isn't carried out, or begun alone
-  module _ {begun store : Store} {came all : List Command} {replies : List Reply} {first now next : D} (store' : Store) (command : Command) (rest : List Command)
-      (carried : IsCarrying d begun came replies store first now) (writes : WritesAlone d now next (λ _. Unit {0})) (parts : came ++ command ∷ rest ≡ all) where
-    none_begun : (error : EngineError) (state : State) (turns : List Turn) → CutsShort error → commands_of turns ≡ came → HasTurned d state turns store first now →
+  module _ {begun store : Store} {came all : List Request} {replies : List Answer} {first now next : D} (store' : Store) (command : Command) (rest : List Request)
+      (carried : IsCarrying d begun came replies store first now) (writes : WritesAlone d now next (λ _. Unit {0})) (parts : came ++ Single command ∷ rest ≡ all) where
+    none_begun : (error : EngineError) (state : State) (turns : List Turn) → CutsShort error → requests_of turns ≡ came → HasTurned d state turns store first now →
         Shows d (IsOf (state_after state turns)) now next → CarriesSome d all error state first next
     none_begun error state turns short are turned shows = record {
       short = short;
       turns = turns;
       run = turned.run;
-      rest = command ∷ rest;
-      parts = ap (λ (cs : List Command). cs ++ command ∷ rest) are ∙ parts;
+      rest = Single command ∷ rest;
+      parts = ap (λ (rs : List Request). rs ++ Single command ∷ rest) are ∙ parts;
       time = shows_then d carried.areas.beside_stays.output (λ i is. is) (some_all state turns) turned.time shows;
     }
 
-    one_begun : (error : EngineError) (state : State) (turns : List Turn) (turn : Turn) → CutsShort error → commands_of turns ≡ came → HasTurned d state turns store first now →
-        turn.command ≡ command → Step (state_after state turns) turn.command turn.reply turn.next → Shows d (IsOfEither (state_after state turns) turn.next) now next →
+    one_begun : (error : EngineError) (state : State) (turns : List Turn) (turn : Turn) → CutsShort error → requests_of turns ≡ came → HasTurned d state turns store first now →
+        turn.request ≡ Single command → RequestStep (state_after state turns) turn.request turn.reply turn.next → Shows d (IsOfEither (state_after state turns) turn.next) now next →
         CarriesSome d all error state first next
     one_begun error state turns turn short are turned is step shows = record {
       short = short;
@@ -248,17 +264,17 @@ module _ {D : Type 0} {d : Ghosts D} where
       run = run_more state turns turn turned.run step;
       rest = rest;
       parts =
-          ap (λ (cs : List Command). cs ++ rest) (commands_more turns turn) ∙ append_assoc (commands_of turns) (turn.command ∷ []) rest ∙ ap (λ (c : Command). commands_of turns ++ c ∷ rest) is
-          ∙ ap (λ (cs : List Command). cs ++ command ∷ rest) are ∙ parts;
+          ap (λ (rs : List Request). rs ++ rest) (requests_more turns turn) ∙ append_assoc (requests_of turns) (turn.request ∷ []) rest ∙ ap (λ (q : Request). requests_of turns ++ q ∷ rest) is
+          ∙ ap (λ (rs : List Request). rs ++ Single command ∷ rest) are ∙ parts;
       time = shows_then d carried.areas.beside_stays.output (some_longer state turns turn) (some_either state turns turn) turned.time shows;
     }
 
-    stops_by : (error : EngineError) (state : State) (turns : List Turn) → commands_of turns ≡ came → HasTurned d state turns store first now →
+    stops_by : (error : EngineError) (state : State) (turns : List Turn) → requests_of turns ≡ came → HasTurned d state turns store first now →
         IsApplied d (Err error) (state_after state turns) command store' now next → CarriesSome d all error state first next
     stops_by engine.Memory state turns are turned (at, shows) = none_begun engine.Memory state turns tt are turned shows
     stops_by engine.Disk state turns are turned (inl shows) = none_begun engine.Disk state turns tt are turned shows
     stops_by engine.Disk state turns are turned (inr (begins, shows)) =
-        one_begun engine.Disk state turns (record { command = command; reply = begins.reply; next = begins.next }) tt are turned refl begins.step shows
+        one_begun engine.Disk state turns (record { request = Single command; reply = begins.reply; next = begins.next }) tt are turned refl begins.step shows
     stops_by engine.Exists state turns are turned applied = absurd applied
     stops_by engine.NotAStore state turns are turned applied = absurd applied
     stops_by engine.Write state turns are turned applied = absurd applied
@@ -272,8 +288,8 @@ module _ {D : Type 0} {d : Ghosts D} where
         stops_by error state turns are turned (applies (state_after state turns) turned.at told)
 
   -- all commands are carried out, and these numbers are told
-  carried_out : {begun store : Store} {all : List Command} {replies : List Reply} {first now : D} {count errors nodes bytes : ℕ} (lines : List ℕ) (listed : Option ℕ) (before : List Command) →
-      IsCarrying d begun all replies store first now → all ≡ before ++ Export gen_name ∷ [] → count ≡ length replies → errors ≡ count_by is_refused replies → bytes ≡ last_size replies →
+  carried_out : {begun store : Store} {all : List Request} {replies : List Answer} {first now : D} {count errors nodes bytes : ℕ} (lines : List ℕ) (listed : Option ℕ) (before : List Request) →
+      IsCarrying d begun all replies store first now → all ≡ before ++ Single (Export gen_name) ∷ [] → count ≡ length replies → errors ≡ count_by is_refused_alone replies → bytes ≡ last_size replies →
       listed ≡ listed_nodes gen_name (map line_of (entries (store.catalog).documents)) → nodes ≡ unwrap_or listed 0 → lines ≡ summary_text count errors nodes bytes →
       CarriesOut d all lines begun store first now
   carried_out {store = store} {replies = replies} {count = count} {errors = errors} {nodes = nodes} {bytes = bytes} lines listed before carried ends many failed size lists counted is state at told =
@@ -287,29 +303,33 @@ module _ {D : Type 0} {d : Ghosts D} where
         turned = turned;
         text_is =
             is ∙ ap (λ (n : ℕ). summary_text n errors nodes bytes) (many ∙ ap length (sym answered))
-            ∙ ap (λ (n : ℕ). summary_text (length (replies_of turns)) n nodes bytes) (failed ∙ ap (count_by is_refused) (sym answered))
-            ∙ ap (λ (n : ℕ). summary_text (length (replies_of turns)) (count_by is_refused (replies_of turns)) n bytes) there
-            ∙ ap (λ (n : ℕ). summary_text (length (replies_of turns)) (count_by is_refused (replies_of turns)) (option_map_or document_size (generated last) 0) n) long;
+            ∙ ap (λ (n : ℕ). summary_text (length (replies_of turns)) n nodes bytes) (failed ∙ ap (count_by is_refused_alone) (sym answered))
+            ∙ ap (λ (n : ℕ). summary_text (length (replies_of turns)) (count_by is_refused_alone (replies_of turns)) n bytes) there
+            ∙ ap (λ (n : ℕ). summary_text (length (replies_of turns)) (count_by is_refused_alone (replies_of turns)) (option_map_or document_size (generated last) 0) n) long;
       }
 
 -- Between two commands: these remain, and these numbers tell of the replies so far.
-pub record IsAmid {D : Type 0} (d : Ghosts D) (all left : List Command) (count errors bytes : ℕ) (begun store : Store) (first now : D) : Type 0 where
-  pub done : List Command
-  pub replies : List Reply
-  pub parts : done ++ left ≡ all
+pub record IsAmid {D : Type 0} (d : Ghosts D) (all : List Request) (left : List Command) (count errors bytes : ℕ) (begun store : Store) (first now : D) : Type 0 where
+  pub done : List Request
+  pub replies : List Answer
+  pub parts : done ++ map (λ command. Single command) left ≡ all
   pub many : count ≡ length replies
   pub as_many : length replies ≡ length done
-  pub failed : errors ≡ count_by is_refused replies
+  pub failed : errors ≡ count_by is_refused_alone replies
   pub size : bytes ≡ last_size replies
   pub carried : IsCarrying d begun done replies store first now
 
+-- the next command, and those behind it
+next_of : (all done : List Request) (left left' : List Command) (command : Command) → left ≡ command ∷ left' → done ++ map (λ c. Single c) left ≡ all → done ++ Single command ∷ map (λ c. Single c) left' ≡ all
+next_of all done left left' command is parts = ap (λ (cs : List Command). done ++ map (λ c. Single c) cs) (sym is) ∙ parts
+
 module _ {D : Type 0} {d : Ghosts D} where
   pub amid_first : {all left : List Command} {count errors bytes : ℕ} {a : D} {store : Store} → left ≡ all → count ≡ 0 → errors ≡ 0 → bytes ≡ 0 →
-      IsAmid d all left count errors bytes store store a a
+      IsAmid d (map (λ command. Single command) all) left count errors bytes store store a a
   amid_first is many failed size = record {
     done = [];
     replies = [];
-    parts = is;
+    parts = ap (λ (cs : List Command). map (λ command. Single command) cs) is;
     many = many;
     as_many = refl;
     failed = failed;
@@ -318,54 +338,56 @@ module _ {D : Type 0} {d : Ghosts D} where
   }
 
   -- there are few
-  pub amid_few : {all left : List Command} {count errors bytes : ℕ} {begun store : Store} {first now : D} → IsAmid d all left count errors bytes begun store first now →
+  pub amid_few : {all : List Request} {left : List Command} {count errors bytes : ℕ} {begun store : Store} {first now : D} → IsAmid d all left count errors bytes begun store first now →
       (count + length left ≡ length all) × (errors ≤ count)
   amid_few {all = all} {left = left} {count = count} {errors = errors} amid =
-      let sum : length (amid.done ++ left) ≡ length amid.done + length left = length-append amid.done left in
-      let whole : length (amid.done ++ left) ≡ length all = ap length amid.parts in
+      let behind : List Request = map (λ command. Single command) left in
+      let sum : length (amid.done ++ behind) ≡ length amid.done + length behind = length-append amid.done behind in
+      let whole : length (amid.done ++ behind) ≡ length all = ap length amid.parts in
+      let remain : length behind ≡ length left = length-map left (λ command. Single command) in
       let as_many : length amid.replies ≡ length amid.done = amid.as_many in
-      let few : count_by is_refused amid.replies ≤ length amid.replies = count_by-le-length is_refused amid.replies in (
-        let many : count ≡ length amid.replies = amid.many in omega (arith, sum, whole, as_many, many),
-        let many : count ≡ length amid.replies = amid.many in let failed : errors ≡ count_by is_refused amid.replies = amid.failed in omega (arith, few, many, failed),
+      let few : count_by is_refused_alone amid.replies ≤ length amid.replies = count_by-le-length is_refused_alone amid.replies in (
+        let many : count ≡ length amid.replies = amid.many in omega (arith, sum, whole, remain, as_many, many),
+        let many : count ≡ length amid.replies = amid.many in let failed : errors ≡ count_by is_refused_alone amid.replies = amid.failed in omega (arith, few, many, failed),
       )
 
   -- one more is carried out
-  pub amid_more : {all left left' : List Command} {count errors bytes count' errors' bytes' : ℕ} {begun store store' : Store} {first now next : D} (command : Command) (r : Reply) →
+  pub amid_more : {all : List Request} {left left' : List Command} {count errors bytes count' errors' bytes' : ℕ} {begun store store' : Store} {first now next : D} (command : Command) (r : Reply) →
       left ≡ command ∷ left' → count' ≡ count + 1 → errors' ≡ errors + (if is_refused r then 1 else 0) → bytes' ≡ exported_size r →
       IsAmid d all left count errors bytes begun store first now → WritesAlone d now next (λ _. Unit {0}) →
       ((state : State) → IsAt d store now state → IsSome (d.contents next) → IsApplied d (Ok r) state command store' now next) →
       IsAmid d all left' count' errors' bytes' begun store' first next
-  amid_more {left' = left'} command r is many failed size amid writes applies = record {
-    done = amid.done ++ command ∷ [];
-    replies = amid.replies ++ r ∷ [];
-    parts = append_assoc amid.done (command ∷ []) left' ∙ ap (λ (cs : List Command). amid.done ++ cs) (sym is) ∙ amid.parts;
-    many = many ∙ ap (λ (n : ℕ). n + 1) amid.many ∙ sym (length_more amid.replies r);
-    as_many = length_more amid.replies r ∙ ap (λ (n : ℕ). n + 1) amid.as_many ∙ sym (length_more amid.done command);
-    failed = failed ∙ ap (λ (n : ℕ). n + (if is_refused r then 1 else 0)) amid.failed ∙ sym (refused_more amid.replies r);
-    size = size ∙ sym (last_more amid.replies r);
+  amid_more {all = all} {left = left} {left' = left'} command r is many failed size amid writes applies = record {
+    done = amid.done ++ Single command ∷ [];
+    replies = amid.replies ++ One r ∷ [];
+    parts = append_assoc amid.done (Single command ∷ []) (map (λ c. Single c) left') ∙ next_of all amid.done left left' command is amid.parts;
+    many = many ∙ ap (λ (n : ℕ). n + 1) amid.many ∙ sym (length_more amid.replies (One r));
+    as_many = length_more amid.replies (One r) ∙ ap (λ (n : ℕ). n + 1) amid.as_many ∙ sym (length_more amid.done (Single command));
+    failed = failed ∙ ap (λ (n : ℕ). n + (if is_refused r then 1 else 0)) amid.failed ∙ sym (refused_more amid.replies (One r));
+    size = size ∙ sym (last_more amid.replies (One r));
     carried = carrying_more command r amid.carried writes applies;
   }
 
   -- all are
-  pub amid_done : {all left : List Command} {count errors nodes bytes : ℕ} {begun store : Store} {first now : D} (lines : List ℕ) (listed : Option ℕ) (before : List Command) → left ≡ [] →
-      all ≡ before ++ Export gen_name ∷ [] → IsAmid d all left count errors bytes begun store first now →
+  pub amid_done : {all : List Request} {left : List Command} {count errors nodes bytes : ℕ} {begun store : Store} {first now : D} (lines : List ℕ) (listed : Option ℕ) (before : List Request) → left ≡ [] →
+      all ≡ before ++ Single (Export gen_name) ∷ [] → IsAmid d all left count errors bytes begun store first now →
       listed ≡ listed_nodes gen_name (map line_of (entries (store.catalog).documents)) → nodes ≡ unwrap_or listed 0 → lines ≡ summary_text count errors nodes bytes →
       CarriesOut d all lines begun store first now
   amid_done {all = all} {begun = begun} {store = store} {first = first} {now = now} lines listed before none ends amid lists counted is =
-      let whole : amid.done ≡ all = sym (append-nil amid.done) ∙ ap (λ (cs : List Command). amid.done ++ cs) (sym none) ∙ amid.parts in
-      carried_out lines listed before (subst (λ (cs : List Command). IsCarrying d begun cs amid.replies store first now) whole amid.carried) ends amid.many amid.failed amid.size lists counted is
+      let whole : amid.done ≡ all = sym (append-nil amid.done) ∙ ap (λ (cs : List Command). amid.done ++ map (λ c. Single c) cs) (sym none) ∙ amid.parts in
+      carried_out lines listed before (subst (λ (rs : List Request). IsCarrying d begun rs amid.replies store first now) whole amid.carried) ends amid.many amid.failed amid.size lists counted is
 
   -- memory runs out
-  pub amid_starved : {all left : List Command} {count errors bytes : ℕ} {begun store : Store} {first now : D} → IsAmid d all left count errors bytes begun store first now →
+  pub amid_starved : {all : List Request} {left : List Command} {count errors bytes : ℕ} {begun store : Store} {first now : D} → IsAmid d all left count errors bytes begun store first now →
       StopsCarrying d all engine.Memory begun first now
-  amid_starved {left = left} amid = carrying_starved left amid.carried amid.parts
+  amid_starved {left = left} amid = carrying_starved (map (λ command. Single command) left) amid.carried amid.parts
 
   -- a command isn't carried out
-  pub amid_stops : {all left left' : List Command} {count errors bytes : ℕ} {begun store : Store} {first now next : D} (store' : Store) (command : Command) (error : EngineError) →
+  pub amid_stops : {all : List Request} {left left' : List Command} {count errors bytes : ℕ} {begun store : Store} {first now next : D} (store' : Store) (command : Command) (error : EngineError) →
       left ≡ command ∷ left' → IsAmid d all left count errors bytes begun store first now → WritesAlone d now next (λ _. Unit {0}) →
       ((state : State) → IsAt d store now state → IsSome (d.contents next) → IsApplied d (Err error) state command store' now next) → StopsCarrying d all error begun first next
-  amid_stops {left' = left'} store' command error is amid writes applies =
-      carrying_stops store' command left' amid.carried writes (ap (λ (cs : List Command). amid.done ++ cs) (sym is) ∙ amid.parts) error applies
+  amid_stops {all = all} {left = left} {left' = left'} store' command error is amid writes applies =
+      carrying_stops store' command (map (λ c. Single c) left') amid.carried writes (next_of all amid.done left left' command is amid.parts) error applies
 
 -- the error that a `?` hands on
 pub passed : {T E : Type 0} (r : Result T E) (P : E → Type 0) (e : E) → (y : E) × (r ≡ Err y) × (y ≡ e) → P e → IfErr r P
@@ -378,7 +400,7 @@ found_ends status a b c kept (inl (is, appends)) =
     subst (λ (s : Status). EndsFinding s a c) (sym is) (appends_then [] exists_line a.output b.output c.output (kept_appends a.output b.output kept) appends)
 found_ends status a b c kept (inr (is, fails)) = subst (λ (s : Status). EndsFinding s a c) (sym is) tt
 
-cut_ends : (all : List Command) (state : State) (turns : List Turn) (e : EngineError) (a b : Beside) → CutsShort e →
+cut_ends : (all : List Request) (state : State) (turns : List Turn) (e : EngineError) (a b : Beside) → CutsShort e →
     EndsGenerating all state turns (status_of_engine e) a b × (status_of_engine e ≡ Done → ⊥)
 cut_ends all state turns engine.Disk a b short = (tt, λ is. cc is)
 cut_ends all state turns engine.Memory a b short = (tt, λ is. cc is)
@@ -428,7 +450,7 @@ module _ {D : Type 0} {d : Ghosts D} where
   }
 
   -- at the end of a run there is a moment of it
-  left_shown : {all : List Command} {state : State} {turns : List Turn} {a c : D} → HasClock d → ((i : Image) → d.may_leave a i → Recovers i (Some state)) →
+  left_shown : {all : List Request} {state : State} {turns : List Turn} {a c : D} → HasClock d → ((i : Image) → d.may_leave a i → Recovers i (Some state)) →
       Elapses d.moment d.stood_since a c (ShowsGenerating (d.beside a).output all state turns) → LeavesMoments d c (ShowsGenerating (d.beside a).output all state turns)
   left_shown {all = all} {state = state} {turns = turns} {a = a} {c = c} clock begins time = λ i left.
       elim (at_end clock time i left) [
@@ -441,7 +463,7 @@ module _ {D : Type 0} {d : Ghosts D} where
   of_settled {state = state} settled recovers i left = subst (λ (j : Image). Recovers j (Some state)) (sym (settled.only i left)) recovers
 
   -- of a disk that was asked alone nothing is carried out
-  generates_none : {all : List Command} {state : State} {was : Image} {a b : D} (status : Status) → HasClock d → IsStill d a b → IsSettled d a was → Recovers was (Some state) →
+  generates_none : {all : List Request} {state : State} {was : Image} {a b : D} (status : Status) → HasClock d → IsStill d a b → IsSettled d a was → Recovers was (Some state) →
       EndsGenerating all state [] status (d.beside a) (d.beside b) → (status ≡ Done → ⊥) → GeneratesFrom d all state status a b
   generates_none {all = all} {state = state} {a = a} status clock still settled recovers ends not_done =
       let time = elapsed_weaker {P = ShowsGenerating (d.beside a).output all state []} still.time
@@ -468,7 +490,7 @@ module _ {D : Type 0} {d : Ghosts D} where
   }
 
   -- the store wasn't opened
-  module _ (all : List Command) {state : State} {was : Image} {a b : D} (clock : HasClock d) (still : IsStill d a b) (settled : IsSettled d a was) (recovers : Recovers was (Some state)) where
+  module _ (all : List Request) {state : State} {was : Image} {a b : D} (clock : HasClock d) (still : IsStill d a b) (settled : IsSettled d a was) (recovers : Recovers was (Some state)) where
     nothing_by : (status : Status) → EndsGenerating all state [] status (d.beside a) (d.beside b) → (status ≡ Done → ⊥) → EndsFinding status (d.beside a) (d.beside b) → (o : Option CutTree) →
         MatchOption o (GeneratesFrom d all state status a b) (λ document. FindsGenerated d status a b)
     nothing_by status ends not_done finds None = generates_none status clock still settled recovers ends not_done
@@ -495,7 +517,7 @@ module _ {D : Type 0} {d : Ghosts D} where
   }
 
   -- not all commands were carried out
-  generates_cut : {all : List Command} {state : State} {was : Image} {a b c : D} (e : EngineError) → HasClock d → IsStill d a b → IsSettled d a was → Recovers was (Some state) →
+  generates_cut : {all : List Request} {state : State} {was : Image} {a b c : D} (e : EngineError) → HasClock d → IsStill d a b → IsSettled d a was → Recovers was (Some state) →
       CarriesSome d all e state b c → GeneratesFrom d all state (status_of_engine e) a c
   generates_cut {all = all} {state = state} {a = a} {b = b} {c = c} e clock still settled recovers stopped =
       let time = elapsed_then {P = ShowsGenerating (d.beside a).output all state stopped.turns}
@@ -516,7 +538,7 @@ module _ {D : Type 0} {d : Ghosts D} where
       }
 
   -- all were, and the summary is given
-  generates_said : {all : List Command} {lines : List ℕ} {state : State} {was : Image} {store : Store} {a b c e : D} (status : Status) → HasClock d → IsStill d a b → IsSettled d a was →
+  generates_said : {all : List Request} {lines : List ℕ} {state : State} {was : Image} {store : Store} {a b c e : D} (status : Status) → HasClock d → IsStill d a b → IsSettled d a was →
       Recovers was (Some state) → HasCarried d all lines state store b c → Keeps (d.beside b).output (d.beside c).output → SaysLine lines Done status (d.beside c) (d.beside e) →
       GivesAlone d lines c e → GeneratesFrom d all state status a e
   generates_said {all = all} {lines = lines} {state = state} {a = a} {b = b} {c = c} {e = e} status clock still settled recovers carried kept says gives =
@@ -539,7 +561,7 @@ module _ {D : Type 0} {d : Ghosts D} where
         turns = turns;
         run = turned.run;
         rest = [];
-        first = append-nil (commands_of turns) ∙ carried.all_are;
+        first = append-nil (requests_of turns) ∙ carried.all_are;
         time = time;
         left = left_shown clock (of_settled settled recovers) time;
         ends = elim says [
@@ -582,7 +604,7 @@ said_cause d a b c line whole status cause later (inr (is, fails)) =
 module _ {D : Type 0} {d : Ghosts D} where
   pub generates_unopened : (seed n : ℕ) {a b : D} (e : EngineError) → HasClock d → IsStill d a b → NotOpened d e a b → Generates d seed n (status_of_engine e) a b
   generates_unopened seed n {a = a} {b = b} e clock still why = record {
-    from = λ was state settled told recovers. unopened_in (commands seed n) clock still settled recovers e why;
+    from = λ was state settled told recovers. unopened_in (generated_requests seed n) clock still settled recovers e why;
     cause = unopened_causes d a b e why;
     no_header = λ was settled none. (unopened_header d a b was e why settled none, still);
     takes = still_takes still;
@@ -594,7 +616,7 @@ module _ {D : Type 0} {d : Ghosts D} where
     -- its documents aren't listed for want of memory
     pub generates_starved : Generates d seed n NoMemory a b
     generates_starved = record {
-      from = λ was state settled told recovers. starved_in (commands seed n) clock still settled recovers;
+      from = λ was state settled told recovers. starved_in (generated_requests seed n) clock still settled recovers;
       cause = tt;
       no_header = λ was settled none. absurd (none (marked was settled));
       takes = still_takes still;
@@ -610,7 +632,7 @@ module _ {D : Type 0} {d : Ghosts D} where
     generates_found {c = c} nodes status listed says gives =
         let still_later : (d.beside a).out_faults ≤ (d.beside b).out_faults = (still_takes still).out_faults_later in
         record {
-          from = λ was state settled told recovers. some_in (GeneratesFrom d (commands seed n) state status a c) (generated state) nodes (listed ∙ listed_in was state settled recovers) (finds_said status still says gives);
+          from = λ was state settled told recovers. some_in (GeneratesFrom d (generated_requests seed n) state status a c) (generated state) nodes (listed ∙ listed_in was state settled recovers) (finds_said status still says gives);
           cause = said_cause d a b c exists_line Refused status tt still_later says;
           no_header = λ was settled none. absurd (none (marked was settled));
           takes = takes_then (still_takes still) (gives_takes gives);
@@ -618,7 +640,7 @@ module _ {D : Type 0} {d : Ghosts D} where
 
     -- Where none is listed:
     module _ (none_listed : None ≡ listed_nodes gen_name (map line_of (entries (begun.catalog).documents))) where
-      stopped_cause : {c : D} (e : EngineError) → d.faults a ≤ d.faults b → StopsCarrying d (commands seed n) e begun b c → IsUnanswered d (status_of_engine e) b c →
+      stopped_cause : {c : D} (e : EngineError) → d.faults a ≤ d.faults b → StopsCarrying d (generated_requests seed n) e begun b c → IsUnanswered d (status_of_engine e) b c →
           IsGenerationCaused d (status_of_engine e) a c
       stopped_cause {c = c} engine.Disk later stops rose = rose_since (d.faults a) (d.faults b) (d.faults c) later rose
       stopped_cause engine.Memory later stops cause = tt
@@ -630,7 +652,7 @@ module _ {D : Type 0} {d : Ghosts D} where
           rose_since (d.beside a).out_faults (d.beside b).out_faults (d.beside c).out_faults (still_takes still).out_faults_later rose
 
       -- not all commands are carried out
-      pub generates_stopped : {c : D} (e : EngineError) → StopsCarrying d (commands seed n) e begun b c → IsUnanswered d (status_of_engine e) b c → WritesAlone d b c (λ _. Unit {0}) →
+      pub generates_stopped : {c : D} (e : EngineError) → StopsCarrying d (generated_requests seed n) e begun b c → IsUnanswered d (status_of_engine e) b c → WritesAlone d b c (λ _. Unit {0}) →
           Generates d seed n (status_of_engine e) a c
       generates_stopped {c = c} e stops cause writes = record {
         from = λ was state settled told recovers.
@@ -642,7 +664,7 @@ module _ {D : Type 0} {d : Ghosts D} where
       }
 
       -- all are
-      pub generates_all : {c e : D} {store : Store} {lines : List ℕ} (status : Status) → CarriesOut d (commands seed n) lines begun store b c → WritesAlone d b c (λ _. Unit {0}) →
+      pub generates_all : {c e : D} {store : Store} {lines : List ℕ} (status : Status) → CarriesOut d (generated_requests seed n) lines begun store b c → WritesAlone d b c (λ _. Unit {0}) →
           SaysLine lines Done status (d.beside c) (d.beside e) → GivesAlone d lines c e → Generates d seed n status a e
       generates_all {c = c} {e = e} {lines = lines} status carries writes says gives =
           let takes = takes_then (still_takes still) (writes_takes writes) in
@@ -659,7 +681,7 @@ module _ {D : Type 0} {d : Ghosts D} where
 -- What it ends with where nothing fails:
 
 module _ {D : Type 0} {d : Ghosts D} {a b : D} {was : Image} (calm : IsUntroubled d was a b) where
-  whole_by : (all : List Command) (state : State) (turns : List Turn) (status : Status) → IsGenerationCaused d status a b → EndsGenerating all state turns status (d.beside a) (d.beside b) → EndsWell status
+  whole_by : (all : List Request) (state : State) (turns : List Turn) (status : Status) → IsGenerationCaused d status a b → EndsGenerating all state turns status (d.beside a) (d.beside b) → EndsWell status
   whole_by all state turns Done cause ends = tt
   whole_by all state turns NoMemory cause ends = tt
   whole_by all state turns DiskFault cause ends = absurd (calm.disk cause)
@@ -683,7 +705,7 @@ module _ {D : Type 0} {d : Ghosts D} {a b : D} {was : Image} (calm : IsUntrouble
   refusing_by (Damaged page) cause ends = absurd ends
   refusing_by TooMuch cause ends = absurd ends
 
-  either_by : (all : List Command) (state : State) (status : Status) → IsGenerationCaused d status a b → (o : Option CutTree) →
+  either_by : (all : List Request) (state : State) (status : Status) → IsGenerationCaused d status a b → (o : Option CutTree) →
       MatchOption o (GeneratesFrom d all state status a b) (λ document. FindsGenerated d status a b) → MatchOption o (EndsWell status) (λ document. EndsRefusing status)
   either_by all state status cause None from = whole_by all state from.turns status cause from.ends
   either_by all state status cause (Some document) found = refusing_by status cause found.ends
@@ -704,7 +726,7 @@ module _ {D : Type 0} {d : Ghosts D} {a b : D} where
   pub generating_completes : (seed n : ℕ) (status : Status) → Generates d seed n status a b → CompletesGenerating d status a b
   generating_completes seed n status generates = record {
     store = λ was state calm recovers.
-        either_by calm (commands seed n) state status generates.cause (generated state) (generates.from was state calm.settled calm.still_told recovers);
+        either_by calm (generated_requests seed n) state status generates.cause (generated state) (generates.from was state calm.settled calm.still_told recovers);
     no_store = λ was calm none. without_by calm status generates.cause (generates.no_header was calm.settled none).0;
   }
 

@@ -132,8 +132,8 @@ module _ {D : Type 0} {d : Ghosts D} {a b : D} where
 
   -- a call of the disk failed
   pub disk_fails : (settings : Settings) → WritesAlone d a b (λ i. (was : Image) → IsSettled d a was → IsOldOrNew settings was i) → Rose (d.faults a) (d.faults b) →
-      Initializes d settings DiskFault a b
-  disk_fails settings goes rose = gives_up settings DiskFault goes.beside_stays goes.faults_later (rose, goes)
+      ((was : Image) → IsSettled d a was → HasPage was → IsStill d a b) → Initializes d settings DiskFault a b
+  disk_fails settings goes rose still = gives_up settings DiskFault goes.beside_stays goes.faults_later (rose, goes, still)
 
   -- memory ran out
   pub finds_no_memory : (settings : Settings) → IsStill d a b → Initializes d settings NoMemory a b

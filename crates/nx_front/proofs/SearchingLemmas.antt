@@ -15,7 +15,7 @@ use Rattle.nx_host.specs.Still.{IsStill}
 use Rattle.nx_host.proofs.DiskLemmas.{untold}
 use Rattle.nx_records.specs.Words.{Held}
 use Rattle.nx_cuts.specs.Cut.{CutTree}
-use Rattle.nx_script.specs.Field.{name_order}
+use Rattle.nx_pyx.specs.DocumentName.{name_order}
 use Rattle.nx_script.specs.declared.whole.Line.{Line}
 use Rattle.nx_catalog.specs.NameMap.{map_in}
 use Rattle.nx_catalog.proofs.NameMap.{same_name}
@@ -25,8 +25,7 @@ use Rattle.nx_find.specs.declared.names.Names.{Names}
 use Rattle.nx_store.specs.declared.store.Store.{Store}
 use Rattle.nx_store.specs.declared.error.EngineError.{EngineError}
 use Rattle.nx_store.specs.declared.error.EngineError.TheVariants as engine
-use Rattle.nx_store.specs.Store.{IsAt, NotApplied}
-use Rattle.nx_store.specs.Staying.{HoldsOn}
+use Rattle.nx_store.specs.Store.{IsAt, NotApplied, HoldsOn}
 use Rattle.nx_store.specs.Naming.{MapsStored, AreNamesOf, FindsIn, NamesReads, FindReads, ReadsNames, ReadsFinding, NotSearched}
 use Rattle.nx_store.proofs.FoundLemmas.{same_some}
 use Rattle.nx_store.proofs.StayingLemmas.{held_on}

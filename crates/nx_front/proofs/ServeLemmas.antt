@@ -11,27 +11,32 @@ use Rattle.nx_host.specs.Still.{WritesAlone}
 use Rattle.nx_host.proofs.OutputLemmas.{appends_nothing, appends_then, keeps_prefix}
 use Rattle.nx_script.specs.declared.command.Command.{Command}
 use Rattle.nx_script.specs.declared.command.Command.TheVariants.{Export, Checkpoint}
+use Rattle.nx_script.specs.declared.request.Request.{Request}
+use Rattle.nx_script.specs.declared.request.Request.TheVariants.{Single}
 use Rattle.nx_script.specs.declared.reply.Reply.{Reply}
-use Rattle.nx_script.specs.Reply.{reply_text}
+use Rattle.nx_script.specs.declared.request.Answer.TheVariants.{One}
+use Rattle.nx_script.specs.Reply.{reply_text, answered_text}
+use Rattle.nx_store.specs.Store.{StoreTurn, IsApplied, IsAnswered, GivesPart, IsAt, IsOf, IsOfEither, Shows, ShowsAnswer, ShowsGiven, IsGiven, IsExported, TakesNone, NotApplied}
+use Rattle.nx_steps.specs.Requests.{RequestStep}
 use Rattle.nx_state.specs.State.{State}
 use Rattle.nx_store.specs.declared.store.Store.{Store}
 use Rattle.nx_store.specs.declared.error.EngineError.{EngineError}
 use Rattle.nx_store.specs.declared.error.EngineError.TheVariants as engine
-use Rattle.nx_store.specs.Store.{StoreTurn, IsAt, IsOf, IsOfEither, Shows, ShowsAnswer, ShowsGiven, IsGiven, IsApplied, IsAnswered, GivesPart, IsExported, TakesNone, NotApplied}
 use Rattle.nx_store.proofs.AtLemmas.{at_beside, at_image}
 use Rattle.nx_store.proofs.CaseLemmas.{quiet_leaves}
-use Rattle.nx_steps.specs.Step.{Step, may_change}
+use Rattle.nx_steps.specs.Step.{may_change}
+use Rattle.nx_steps.proofs.RequestLemmas.{other_requests_stay}
 use Rattle.nx_filters.specs.declared.status.Status.{Status}
 use Rattle.nx_filters.specs.declared.status.Status.TheVariants.{NoMemory}
 use Rattle.nx_filters.specs.declared.give.GiveError.{GiveError}
 use Rattle.nx_filters.specs.declared.give.GiveError.TheVariants as give_error
 use Rattle.nx_filters.specs.TakeError.{status_of_give_error}
 use Rattle.nx_filters.specs.Outcome.{Given}
-use Rattle.nx_front.specs.Serving.{Turn, state_after, commands_of, texts_of, ShowsBetween, LeavesMoments, EndsBetween}
+use Rattle.nx_front.specs.Serving.{Turn, state_after, requests_of, texts_of, ShowsBetween, LeavesMoments, EndsBetween}
 use Rattle.nx_front.specs.Conversation.{IsReached, ShowsReached, IsReachedBetween, HasRun, HasServed, HasBegun, AnswersNext, BeginsNext, StopsShort, IsUnanswered, status_of_engine}
 use Rattle.nx_filters.proofs.OutcomeLemmas.{kept_appends, gives_appends, keeps_of}
 use Rattle.nx_front.proofs.ClockLemmas.{HasClock, at_end}
-use Rattle.nx_front.proofs.MomentLemmas.{run_more, after_more, texts_more, commands_more, longer, last, longer_between, last_between, part_between, every_between, le_or}
+use Rattle.nx_front.proofs.MomentLemmas.{run_more, after_more, texts_more, requests_more, longer, last, longer_between, last_between, part_between, every_between, le_or}
 
 -- What is given:
 
@@ -42,13 +47,13 @@ prefix_bytes bytes old (Some now) (was, n, is, grew) = (n, (was, is, grew))
 
 -- Of the texts of turns more are out, and the last one changed nothing.
 waits_more : (state : State) (turns : List Turn) (turn : Turn) (n : ℕ) (image : Image) → (n ≤ length (texts_of turns) → IsReached state turns (take n (texts_of turns)) image) → IsOf turn.next image →
-    (n < length (texts_of turns)) ⊎ (length (texts_of turns) ≤ n) → IsReached state (turns ++ turn ∷ []) (take n (texts_of turns ++ reply_text turn.reply)) image
+    (n < length (texts_of turns)) ⊎ (length (texts_of turns) ≤ n) → IsReached state (turns ++ turn ∷ []) (take n (texts_of turns ++ answered_text turn.reply)) image
 waits_more state turns turn n image waits is (inl short) =
     let few : n ≤ length (texts_of turns) = omega (arith, short) in
-    subst (λ (l : List ℕ). IsReached state (turns ++ turn ∷ []) l image) (sym (take-append-le n (texts_of turns) (reply_text turn.reply) few))
+    subst (λ (l : List ℕ). IsReached state (turns ++ turn ∷ []) l image) (sym (take-append-le n (texts_of turns) (answered_text turn.reply) few))
     (longer state turns turn (take n (texts_of turns)) image (waits few))
 waits_more state turns turn n image waits is (inr long) =
-    let text = reply_text turn.reply in
+    let text = answered_text turn.reply in
     let m = n - length (texts_of turns) in
     let all : length (texts_of turns) + m ≡ n = omega (arith, long) in
     subst (λ (l : List ℕ). IsReached state (turns ++ turn ∷ []) l image)
@@ -57,14 +62,14 @@ waits_more state turns turn n image waits is (inr long) =
 
 -- ... and none is begun
 between_more : (state : State) (turns : List Turn) (turn : Turn) (n : ℕ) (image : Image) → IsReachedBetween state turns (take n (texts_of turns)) image → IsOf (state_after state turns) image →
-    IsOf turn.next image → (n < length (texts_of turns)) ⊎ (length (texts_of turns) ≤ n) → IsReachedBetween state (turns ++ turn ∷ []) (take n (texts_of turns ++ reply_text turn.reply)) image
+    IsOf turn.next image → (n < length (texts_of turns)) ⊎ (length (texts_of turns) ≤ n) → IsReachedBetween state (turns ++ turn ∷ []) (take n (texts_of turns ++ answered_text turn.reply)) image
 between_more state turns turn n image waits before is (inl short) =
     let few : n ≤ length (texts_of turns) = omega (arith, short) in
     let long : length (take n (texts_of turns)) ≡ n = length-take-le n (texts_of turns) few in
-    subst (λ (l : List ℕ). IsReachedBetween state (turns ++ turn ∷ []) l image) (sym (take-append-le n (texts_of turns) (reply_text turn.reply) few))
+    subst (λ (l : List ℕ). IsReachedBetween state (turns ++ turn ∷ []) l image) (sym (take-append-le n (texts_of turns) (answered_text turn.reply) few))
     (longer_between state turns turn (take n (texts_of turns)) image (omega (arith, short, long)) waits)
 between_more state turns turn n image waits before is (inr long) =
-    let text = reply_text turn.reply in
+    let text = answered_text turn.reply in
     let m = n - length (texts_of turns) in
     let all : length (texts_of turns) + m ≡ n = omega (arith, long) in
     subst (λ (l : List ℕ). IsReachedBetween state (turns ++ turn ∷ []) l image)
@@ -73,17 +78,17 @@ between_more state turns turn n image waits before is (inr long) =
 
 -- a moment of the last turn is one of the run, where all replies before it are out
 within : (state : State) (turns : List Turn) (turn : Turn) (first now : Option (List ℕ)) (s : Stood) → Appends (texts_of turns) first now →
-    ShowsAnswer now (state_after state turns) (reply_text turn.reply) turn.next s → ShowsReached first state (turns ++ turn ∷ []) s
+    ShowsAnswer now (state_after state turns) (answered_text turn.reply) turn.next s → ShowsReached first state (turns ++ turn ∷ []) s
 within state turns turn first now s gave (inl (keeps, is)) = (
   texts_of turns ++ [],
   appends_then (texts_of turns) [] first now s.output gave (kept_appends now s.output keeps),
   last state turns turn [] s.image (elim is [ inl old ↦ inl (refl, old) | inr new ↦ inr (inl (0, refl, new)) ]),
 )
 within state turns turn first now s gave (inr (prefix, is)) =
-    let (n, appended) = prefix_bytes (reply_text turn.reply) now s.output prefix in (
-      texts_of turns ++ take n (reply_text turn.reply),
-      appends_then (texts_of turns) (take n (reply_text turn.reply)) first now s.output gave appended,
-      last state turns turn (take n (reply_text turn.reply)) s.image (inr (inl (n, refl, is))),
+    let (n, appended) = prefix_bytes (answered_text turn.reply) now s.output prefix in (
+      texts_of turns ++ take n (answered_text turn.reply),
+      appends_then (texts_of turns) (take n (answered_text turn.reply)) first now s.output gave appended,
+      last state turns turn (take n (answered_text turn.reply)) s.image (inr (inl (n, refl, is))),
     )
 
 -- the moments of a longer run
@@ -105,9 +110,9 @@ pub stops_giving : (stop : GiveError) → StopsShort (status_of_give_error stop)
 stops_giving give_error.WriteFault = tt
 stops_giving give_error.NoMemory = tt
 
--- the turn of a command that came in a state
-abbrev turn_of : {state : State} (command : Command) → StoreTurn state command → Turn
-turn_of command turn = record { command = command; reply = turn.reply; next = turn.next }
+-- the turn of a request that came in a state
+abbrev turn_of : {state : State} (request : Request) → StoreTurn state request → Turn
+turn_of request turn = record { request = request; reply = turn.reply; next = turn.next }
 
 module _ {D : Type 0} {d : Ghosts D} where
   -- before the first turn
@@ -124,10 +129,10 @@ module _ {D : Type 0} {d : Ghosts D} where
 
   -- Behind what the block has comes the reply of a turn that changes nothing.
   served_quietly : {first now : D} {state : State} {turns : List Turn} {store : Store} {block : List ℕ} (turn : Turn) → HasServed d state turns store block first now →
-      Step (state_after state turns) turn.command turn.reply turn.next → turn.next ≡ state_after state turns →
-      HasServed d state (turns ++ turn ∷ []) store (block ++ reply_text turn.reply) first now
+      RequestStep (state_after state turns) turn.request turn.reply turn.next → turn.next ≡ state_after state turns →
+      HasServed d state (turns ++ turn ∷ []) store (block ++ answered_text turn.reply) first now
   served_quietly {first = first} {now = now} {state = state} {turns = turns} {store = store} {block = block} turn served step same =
-      let text = reply_text turn.reply in
+      let text = answered_text turn.reply in
       let before : state_after state (turns ++ turn ∷ []) ≡ state_after state turns = after_more state turns turn ∙ same in
       record {
         run = record { run = run_more state turns turn served.run.run step; time = time_longer d first now state turns turn served.run.time };
@@ -162,7 +167,7 @@ module _ {D : Type 0} {d : Ghosts D} where
         ));
   }
 
-  -- ... and at their end no command is half done
+  -- ... and at their end no request is half done
   pub between_given : {first now next : D} {state : State} {turns : List Turn} {store : Store} {block : List ℕ} → HasClock d → HasServed d state turns store block first now →
       ShowsGiven d block (state_after state turns) now next → LeavesMoments d next (ShowsBetween (d.beside first).output state turns)
   between_given {first = first} {now = now} {next = next} {state = state} {turns = turns} {block = block} clock served gives = λ i left.
@@ -239,8 +244,8 @@ module _ {D : Type 0} {d : Ghosts D} where
 
   -- the moments of a turn that may change the state, once all replies before it are out
   run_loudly : {first now next : D} {state : State} {turns : List Turn} {store : Store} {block : List ℕ} (turn : Turn) → HasServed d state turns store block first now → block ≡ [] →
-      Step (state_after state turns) turn.command turn.reply turn.next →
-      Elapses d.moment d.stood_since now next (ShowsAnswer (d.beside now).output (state_after state turns) (reply_text turn.reply) turn.next) →
+      RequestStep (state_after state turns) turn.request turn.reply turn.next →
+      Elapses d.moment d.stood_since now next (ShowsAnswer (d.beside now).output (state_after state turns) (answered_text turn.reply) turn.next) →
       HasRun d state (turns ++ turn ∷ []) first next
   run_loudly {first = first} {now = now} {state = state} {turns = turns} turn served none step time = record {
     run = run_more state turns turn served.run.run step;
@@ -249,11 +254,11 @@ module _ {D : Type 0} {d : Ghosts D} where
 
   -- The reply of a turn that may change the state is given at once.
   served_loudly : {first now next : D} {state : State} {turns : List Turn} {store store' : Store} {block : List ℕ} (turn : Turn) → HasServed d state turns store block first now → block ≡ [] →
-      Step (state_after state turns) turn.command turn.reply turn.next → IsAt d store' next turn.next → Appends (reply_text turn.reply) (d.beside now).output (d.beside next).output →
-      Elapses d.moment d.stood_since now next (ShowsAnswer (d.beside now).output (state_after state turns) (reply_text turn.reply) turn.next) →
+      RequestStep (state_after state turns) turn.request turn.reply turn.next → IsAt d store' next turn.next → Appends (answered_text turn.reply) (d.beside now).output (d.beside next).output →
+      Elapses d.moment d.stood_since now next (ShowsAnswer (d.beside now).output (state_after state turns) (answered_text turn.reply) turn.next) →
       HasServed d state (turns ++ turn ∷ []) store' block first next
   served_loudly {first = first} {now = now} {next = next} {state = state} {turns = turns} {store' = store'} {block = block} turn served none step at appends time =
-      let text = reply_text turn.reply in
+      let text = answered_text turn.reply in
       let after : state_after state (turns ++ turn ∷ []) ≡ turn.next = after_more state turns turn in
       let all : texts_of turns ++ text ≡ texts_of (turns ++ turn ∷ []) = sym (texts_more turns turn) in
       record {
@@ -274,7 +279,7 @@ module _ {D : Type 0} {d : Ghosts D} where
             (last_between state turns turn text image (inr ([], sym (append-nil text), (refl, here))));
       }
 
-  -- What a command is answered:
+  -- What a request is answered:
 
   -- the block is given
   pub given_block : {first now next : D} {state : State} {turns : List Turn} {store : Store} {block left : List ℕ} → HasServed d state turns store block first now → left ≡ [] →
@@ -284,12 +289,12 @@ module _ {D : Type 0} {d : Ghosts D} where
       (gives_appends block (d.beside now).output (d.beside next).output gave)
       (leaves_gives block alone.areas served.at)
 
-  -- a command isn't begun, while a part is given of what the block has
-  begun_none : {status : Status} {first now next : D} {state : State} {turns : List Turn} {store : Store} {block : List ℕ} (command : Command) → HasClock d →
-      HasServed d state turns store block first now → ShowsGiven d block (state_after state turns) now next → HasBegun d status state (commands_of turns ++ command ∷ []) first next
-  begun_none {turns = turns} command clock served gives = record {
+  -- a request isn't begun, while a part is given of what the block has
+  begun_none : {status : Status} {first now next : D} {state : State} {turns : List Turn} {store : Store} {block : List ℕ} (request : Request) → HasClock d →
+      HasServed d state turns store block first now → ShowsGiven d block (state_after state turns) now next → HasBegun d status state (requests_of turns ++ request ∷ []) first next
+  begun_none {turns = turns} request clock served gives = record {
     turns = turns;
-    rest = command ∷ [];
+    rest = request ∷ [];
     parts = refl;
     run = run_given served gives;
     between = λ ends. between_given clock served gives;
@@ -297,64 +302,65 @@ module _ {D : Type 0} {d : Ghosts D} where
 
   -- it is begun
   begun_one : {status : Status} {first next : D} {state : State} (turns : List Turn) (turn : Turn) → HasRun d state (turns ++ turn ∷ []) first next →
-      (EndsBetween status → LeavesMoments d next (ShowsBetween (d.beside first).output state (turns ++ turn ∷ []))) → HasBegun d status state (commands_of turns ++ turn.command ∷ []) first next
+      (EndsBetween status → LeavesMoments d next (ShowsBetween (d.beside first).output state (turns ++ turn ∷ []))) → HasBegun d status state (requests_of turns ++ turn.request ∷ []) first next
   begun_one turns turn run between = record {
     turns = turns ++ turn ∷ [];
     rest = [];
-    parts = append-nil (commands_of (turns ++ turn ∷ [])) ∙ commands_more turns turn;
+    parts = append-nil (requests_of (turns ++ turn ∷ [])) ∙ requests_more turns turn;
     run = run;
     between = between;
   }
 
   -- a first part of an export was given
-  part_begun : {status : Status} {first mid next : D} {store : Store} {state : State} {turns : List Turn} {block : List ℕ} (command : Command) → HasClock d → HasServed d state turns store block first mid → block ≡ [] →
-      GivesPart d (state_after state turns) command mid next → HasBegun d status state (commands_of turns ++ command ∷ []) first next
-  part_begun {status = status} {first = first} {mid = mid} {next = next} {state = state} {turns = turns} {block = block} command clock served none part =
-      let turn : Turn = record { command = Export part.name; reply = part.reply; next = state_after state turns } in
+  part_begun : {status : Status} {first mid next : D} {store : Store} {state : State} {turns : List Turn} {block : List ℕ} (request : Request) → HasClock d → HasServed d state turns store block first mid → block ≡ [] →
+      GivesPart d (state_after state turns) request mid next → HasBegun d status state (requests_of turns ++ request ∷ []) first next
+  part_begun {status = status} {first = first} {mid = mid} {next = next} {state = state} {turns = turns} {block = block} request clock served none part =
+      let turn : Turn = record { request = Single (Export part.name); reply = One part.reply; next = state_after state turns } in
       let there = served_quietly turn served part.step refl in
       let gives = subst (λ (t : State). ShowsGiven d (block ++ reply_text part.reply) t mid next) (sym (after_more state turns turn))
       (subst (λ (b : List ℕ). ShowsGiven d (b ++ reply_text part.reply) (state_after state turns) mid next) (sym none) part.time) in
-      subst (λ (c : Command). HasBegun d status state (commands_of turns ++ c ∷ []) first next) (sym part.is) (begun_one turns turn (run_given there gives) (λ ends. between_given clock there gives))
+      subst (λ (r : Request). HasBegun d status state (requests_of turns ++ r ∷ []) first next) (sym part.is) (begun_one turns turn (run_given there gives) (λ ends. between_given clock there gives))
 
   -- it isn't begun where the block isn't given
-  pub block_begins : {now next : D} {store : Store} {block : List ℕ} (command : Command) (stop : GiveError) → HasClock d → GivesAlone d block now next →
-      BeginsNext d command (status_of_give_error stop) store block now next
-  block_begins {block = block} command stop clock alone first state turns served told = (stops_giving stop, begun_none command clock served (leaves_gives block alone.areas served.at))
+  pub block_begins : {now next : D} {store : Store} {block : List ℕ} (request : Request) (stop : GiveError) → HasClock d → GivesAlone d block now next →
+      BeginsNext d request (status_of_give_error stop) store block now next
+  block_begins {block = block} request stop clock alone first state turns served told = (stops_giving stop, begun_none request clock served (leaves_gives block alone.areas served.at))
 
-  -- A command that may change the store is answered, once the block is given.
-  pub loud_answers : {now mid next : D} {store store' : Store} {block left : List ℕ} (command : Command) → left ≡ [] → Given block (Ok tt) (d.beside now) (d.beside mid) → GivesAlone d block now mid →
-      TakesNone d mid next → ((state : State) → IsAt d store mid state → IsSome (d.contents next) → IsAnswered d (Ok tt) state command store' mid next) →
-      AnswersNext d command store store' block left now next
-  loud_answers command none gave alone takes answers first state turns served told =
+  -- A request that may change the store is answered, once the block is given.
+  pub loud_answers : {now mid next : D} {store store' : Store} {block left : List ℕ} (request : Request) → left ≡ [] → Given block (Ok tt) (d.beside now) (d.beside mid) → GivesAlone d block now mid →
+      TakesNone d mid next → ((state : State) → IsAt d store mid state → IsSome (d.contents next) → IsAnswered d (Ok tt) state request store store' mid next) →
+      AnswersNext d request store store' block left now next
+  loud_answers request none gave alone takes answers first state turns served told =
       let there = given_block served none gave alone (takes.told told) in
-      let (turn, at, appends, time, log) = answers (state_after state turns) there.at told in
-      (turn_of command turn, refl, served_loudly (turn_of command turn) there none turn.step at appends time, log.emptied)
+      let gives = answers (state_after state turns) there.at told in
+      let turn = turn_of request gives.turn in
+      (turn, refl, served_loudly turn there none gives.turn.step gives.at gives.gave gives.time, gives.log.emptied)
 
   -- ... or begun
-  loud_stops : {first mid next : D} {store : Store} {state : State} {turns : List Turn} {block : List ℕ} (store' : Store) (command : Command) (e : EngineError) → HasClock d →
-      HasServed d state turns store block first mid → block ≡ [] → IsAnswered d (Err e) (state_after state turns) command store' mid next →
-      StopsShort (status_of_engine e) × HasBegun d (status_of_engine e) state (commands_of turns ++ command ∷ []) first next
-  loud_stops {turns = turns} store' command engine.Write clock served none (turn, at, time) =
-      (tt, begun_one turns (turn_of command turn) (run_loudly (turn_of command turn) served none turn.step time) (λ ends. absurd ends))
-  loud_stops {mid = mid} {next = next} {state = state} {turns = turns} {block = block} store' command engine.Memory clock served none (at, inl shows) =
-      (tt, begun_none command clock served (shows_gives d mid next (state_after state turns) block shows))
-  loud_stops store' command engine.Memory clock served none (at, inr part) = (tt, part_begun command clock served none part)
-  loud_stops {mid = mid} {next = next} {state = state} {turns = turns} {block = block} store' command engine.Disk clock served none (inl (inl shows)) =
-      (tt, begun_none command clock served (shows_gives d mid next (state_after state turns) block shows))
-  loud_stops {turns = turns} store' command engine.Disk clock served none (inl (inr (turn, shows))) =
-      (tt, begun_one turns (turn_of command turn) (run_loudly (turn_of command turn) served none turn.step (elapsed_weaker shows (λ s h. inl h))) (λ ends. absurd ends))
-  loud_stops store' command engine.Disk clock served none (inr part) = (tt, part_begun command clock served none part)
-  loud_stops store' command engine.Exists clock served none answered = absurd answered
-  loud_stops store' command engine.NotAStore clock served none answered = absurd answered
-  loud_stops store' command (engine.Damaged page) clock served none answered = absurd answered
-  loud_stops store' command engine.Ended clock served none answered = absurd answered
+  loud_stops : {first mid next : D} {store : Store} {state : State} {turns : List Turn} {block : List ℕ} (store' : Store) (request : Request) (e : EngineError) → HasClock d →
+      HasServed d state turns store block first mid → block ≡ [] → IsAnswered d (Err e) (state_after state turns) request store store' mid next →
+      StopsShort (status_of_engine e) × HasBegun d (status_of_engine e) state (requests_of turns ++ request ∷ []) first next
+  loud_stops {turns = turns} store' request engine.Write clock served none (turn, at, time, holds) =
+      (tt, begun_one turns (turn_of request turn) (run_loudly (turn_of request turn) served none turn.step time) (λ ends. absurd ends))
+  loud_stops {mid = mid} {next = next} {state = state} {turns = turns} {block = block} store' request engine.Memory clock served none (at, inl shows, holds) =
+      (tt, begun_none request clock served (shows_gives d mid next (state_after state turns) block shows))
+  loud_stops store' request engine.Memory clock served none (at, inr part, holds) = (tt, part_begun request clock served none part)
+  loud_stops {mid = mid} {next = next} {state = state} {turns = turns} {block = block} store' request engine.Disk clock served none (inl (inl shows)) =
+      (tt, begun_none request clock served (shows_gives d mid next (state_after state turns) block shows))
+  loud_stops {turns = turns} store' request engine.Disk clock served none (inl (inr (turn, shows))) =
+      (tt, begun_one turns (turn_of request turn) (run_loudly (turn_of request turn) served none turn.step (elapsed_weaker shows (λ s h. inl h))) (λ ends. absurd ends))
+  loud_stops store' request engine.Disk clock served none (inr part) = (tt, part_begun request clock served none part)
+  loud_stops store' request engine.Exists clock served none answered = absurd answered
+  loud_stops store' request engine.NotAStore clock served none answered = absurd answered
+  loud_stops store' request (engine.Damaged page) clock served none answered = absurd answered
+  loud_stops store' request engine.Ended clock served none answered = absurd answered
 
-  pub loud_begins : {now mid next : D} {store : Store} {block left : List ℕ} (store' : Store) (command : Command) (e : EngineError) → HasClock d → left ≡ [] →
+  pub loud_begins : {now mid next : D} {store : Store} {block left : List ℕ} (store' : Store) (request : Request) (e : EngineError) → HasClock d → left ≡ [] →
       Given block (Ok tt) (d.beside now) (d.beside mid) → GivesAlone d block now mid → TakesNone d mid next →
-      ((state : State) → IsAt d store mid state → IsSome (d.contents next) → IsAnswered d (Err e) state command store' mid next) → BeginsNext d command (status_of_engine e) store block now next
-  loud_begins store' command e clock none gave alone takes answers first state turns served told =
+      ((state : State) → IsAt d store mid state → IsSome (d.contents next) → IsAnswered d (Err e) state request store store' mid next) → BeginsNext d request (status_of_engine e) store block now next
+  loud_begins store' request e clock none gave alone takes answers first state turns served told =
       let there = given_block served none gave alone (takes.told told) in
-      loud_stops store' command e clock there none (answers (state_after state turns) there.at told)
+      loud_stops store' request e clock there none (answers (state_after state turns) there.at told)
 
   -- A command that changes nothing is carried out.
   quietly : {first now next : D} {state : State} {turns : List Turn} {store store' : Store} {block : List ℕ} {P : Image → Type 0} {after : State} → HasServed d state turns store block first now →
@@ -367,11 +373,11 @@ module _ {D : Type 0} {d : Ghosts D} where
   -- ... and its reply stands behind what the block has
   pub quiet_answers : {now next : D} {store store' : Store} {block left : List ℕ} {P : Image → Type 0} (command : Command) (reply : Reply) → may_change command ≡ false → left ≡ block ++ reply_text reply →
       WritesAlone d now next P → ((state : State) → IsAt d store now state → IsSome (d.contents next) → IsApplied d (Ok reply) state command store' now next) →
-      AnswersNext d command store store' block left now next
+      AnswersNext d (Single command) store store' block left now next
   quiet_answers {now = now} {next = next} {store' = store'} {block = block} command reply calm is alone applies first state turns served told =
       let (after, step, at, shows, log) = applies (state_after state turns) served.at told in
       let same = quiet_leaves command calm (state_after state turns) after reply step in
-      let turn : Turn = record { command = command; reply = reply; next = after } in (
+      let turn : Turn = record { request = Single command; reply = One reply; next = after } in (
         turn,
         refl,
         subst (λ (l : List ℕ). HasServed d state (turns ++ turn ∷ []) store' l first next) (sym is) (served_quietly turn (quietly served same at alone shows) step same),
@@ -380,24 +386,24 @@ module _ {D : Type 0} {d : Ghosts D} where
 
   -- ... but for the text of its reply
   pub quiet_pushless : {now next : D} {store store' : Store} {block : List ℕ} (command : Command) (reply : Reply) → HasClock d → may_change command ≡ false →
-      ((state : State) → IsAt d store now state → IsSome (d.contents next) → IsApplied d (Ok reply) state command store' now next) → BeginsNext d command NoMemory store block now next
+      ((state : State) → IsAt d store now state → IsSome (d.contents next) → IsApplied d (Ok reply) state command store' now next) → BeginsNext d (Single command) NoMemory store block now next
   quiet_pushless {now = now} {next = next} {block = block} command reply clock calm applies first state turns served told =
       let (after, step, at, shows, log) = applies (state_after state turns) served.at told in
       let before = state_after state turns in
       let same = quiet_leaves command calm before after reply step in
-      (tt, begun_none command clock served (shows_gives d now next before block (quiet_shows d now next before after same shows)))
+      (tt, begun_none (Single command) clock served (shows_gives d now next before block (quiet_shows d now next before after same shows)))
 
   quiet_stops : {first now next : D} {store : Store} {state : State} {turns : List Turn} {block : List ℕ} (store' : Store) (command : Command) (e : EngineError) → HasClock d →
       may_change command ≡ false → HasServed d state turns store block first now → IsApplied d (Err e) (state_after state turns) command store' now next →
-      StopsShort (status_of_engine e) × HasBegun d (status_of_engine e) state (commands_of turns ++ command ∷ []) first next
+      StopsShort (status_of_engine e) × HasBegun d (status_of_engine e) state (requests_of turns ++ Single command ∷ []) first next
   quiet_stops {now = now} {next = next} {state = state} {turns = turns} {block = block} store' command engine.Memory clock calm served (at, shows) =
-      (tt, begun_none command clock served (shows_gives d now next (state_after state turns) block shows))
+      (tt, begun_none (Single command) clock served (shows_gives d now next (state_after state turns) block shows))
   quiet_stops {now = now} {next = next} {state = state} {turns = turns} {block = block} store' command engine.Disk clock calm served (inl shows) =
-      (tt, begun_none command clock served (shows_gives d now next (state_after state turns) block shows))
+      (tt, begun_none (Single command) clock served (shows_gives d now next (state_after state turns) block shows))
   quiet_stops {now = now} {next = next} {state = state} {turns = turns} {block = block} store' command engine.Disk clock calm served (inr (turn, shows)) =
       let before = state_after state turns in
-      let same = quiet_leaves command calm before turn.next turn.reply turn.step in
-      (tt, begun_none command clock served (shows_gives d now next before block (quiet_shows d now next before turn.next same shows)))
+      let same = other_requests_stay before (Single command) turn.reply turn.next calm turn.step in
+      (tt, begun_none (Single command) clock served (shows_gives d now next before block (quiet_shows d now next before turn.next same shows)))
   quiet_stops store' command engine.Write clock calm served applied = absurd applied
   quiet_stops store' command engine.Exists clock calm served applied = absurd applied
   quiet_stops store' command engine.NotAStore clock calm served applied = absurd applied
@@ -405,28 +411,28 @@ module _ {D : Type 0} {d : Ghosts D} where
   quiet_stops store' command engine.Ended clock calm served applied = absurd applied
 
   pub quiet_begins : {now next : D} {store : Store} {block : List ℕ} (store' : Store) (command : Command) (e : EngineError) → HasClock d → may_change command ≡ false →
-      ((state : State) → IsAt d store now state → IsSome (d.contents next) → IsApplied d (Err e) state command store' now next) → BeginsNext d command (status_of_engine e) store block now next
+      ((state : State) → IsAt d store now state → IsSome (d.contents next) → IsApplied d (Err e) state command store' now next) → BeginsNext d (Single command) (status_of_engine e) store block now next
   quiet_begins store' command e clock calm applies first state turns served told = quiet_stops store' command e clock calm served (applies (state_after state turns) served.at told)
 
   -- A document's text is given behind what the block has, but for a last part.
   exported : {first now next : D} {state : State} {turns : List Turn} {store store' : Store} {name block left : List ℕ} {result : Result (Unit {0}) EngineError} → HasServed d state turns store block first now →
-      (done : IsExported d result (state_after state turns) name block left store' now next) → (turn : Turn) × (turn.command ≡ Export name) ×
+      (done : IsExported d result (state_after state turns) name block left store' now next) → (turn : Turn) × (turn.request ≡ Single (Export name)) ×
       HasServed d state (turns ++ turn ∷ []) store (block ++ reply_text done.reply) first now × (state_after state (turns ++ turn ∷ []) ≡ state_after state turns)
   exported {state = state} {turns = turns} {name = name} served done =
-      let turn : Turn = record { command = Export name; reply = done.reply; next = state_after state turns } in
+      let turn : Turn = record { request = Single (Export name); reply = One done.reply; next = state_after state turns } in
       (turn, refl, served_quietly turn served done.step refl, after_more state turns turn)
 
   pub export_answers : {now next : D} {store store' : Store} {block left shown name : List ℕ} {u : Unit {0}} (command : Command) → command ≡ Export name → shown ≡ name →
-      ((state : State) → IsAt d store now state → IsSome (d.contents next) → IsExported d (Ok u) state shown block left store' now next) → AnswersNext d command store store' block left now next
+      ((state : State) → IsAt d store now state → IsSome (d.contents next) → IsExported d (Ok u) state shown block left store' now next) → AnswersNext d (Single command) store store' block left now next
   export_answers {now = now} {next = next} {store' = store'} {block = block} {shown = shown} {name = name} command is same_name exports first state turns served told =
       let done = exports (state_after state turns) served.at told in
       let (turn, of_it, there, same) = exported served done in
       let (at, but) = done.given in (
         turn,
-        of_it ∙ ap (λ (n : List ℕ). Export n) same_name ∙ sym is,
+        of_it ∙ ap (λ (n : List ℕ). Single (Export n)) same_name ∙ ap (λ (c : Command). Single c) (sym is),
         served_given but.done there (subst (λ (t : State). IsAt d store' next t) (sym same) at) but.parts but.gave
             (subst (λ (t : State). ShowsGiven d (block ++ reply_text done.reply) t now next) (sym same) done.time),
-        λ last. absurd (let none : Export name ≡ Checkpoint = sym is ∙ last in cc),
+        λ last. absurd (let none : Single (Export name) ≡ Single Checkpoint = ap (λ (c : Command). Single c) (sym is) ∙ last in cc),
       )
 
   export_stops : {first now next : D} {store store' : Store} {state : State} {turns : List Turn} {name block left : List ℕ} (e : EngineError) → HasServed d state turns store block first now →
@@ -441,13 +447,13 @@ module _ {D : Type 0} {d : Ghosts D} where
   export_stops engine.Ended served done given = absurd given
 
   pub export_begins : {now next : D} {store store' : Store} {block left shown name : List ℕ} (command : Command) (e : EngineError) → HasClock d → command ≡ Export name → shown ≡ name →
-      ((state : State) → IsAt d store now state → IsSome (d.contents next) → IsExported d (Err e) state shown block left store' now next) → BeginsNext d command (status_of_engine e) store block now next
+      ((state : State) → IsAt d store now state → IsSome (d.contents next) → IsExported d (Err e) state shown block left store' now next) → BeginsNext d (Single command) (status_of_engine e) store block now next
   export_begins {now = now} {next = next} {block = block} command e clock is same_name exports first state turns served told =
       let done = exports (state_after state turns) served.at told in
       let (turn, of_it, there, same) = exported served done in
       let gives = subst (λ (t : State). ShowsGiven d (block ++ reply_text done.reply) t now next) (sym same) done.time in (
         export_stops e served done done.given,
-        subst (λ (c : Command). HasBegun d (status_of_engine e) state (commands_of turns ++ c ∷ []) first next) (of_it ∙ ap (λ (n : List ℕ). Export n) same_name ∙ sym is)
+        subst (λ (r : Request). HasBegun d (status_of_engine e) state (requests_of turns ++ r ∷ []) first next) (of_it ∙ ap (λ (n : List ℕ). Single (Export n)) same_name ∙ ap (λ (c : Command). Single c) (sym is))
             (begun_one turns turn (run_given there gives) (λ ends. between_given clock there gives)),
       )
 

@@ -5,7 +5,7 @@ use Rattle.nx_host.specs.Disk.{Image}
 use Rattle.nx_replay.specs.Log.{mark}
 use Rattle.nx_holdings.specs.declared.header.Header.{Header}
 use Rattle.nx_holdings.specs.Header.{header_bytes}
-use Rattle.nx_script.proofs.OneList.{one_list}
+use Rattle.nx_script.proofs.OneRequestList.{one_request_list}
 use Rattle.nx_state.proofs.OneLemmas.{one_state}
 use Rattle.nx_filters.specs.declared.status.Status.{Status}
 use Rattle.nx_filters.specs.declared.status.Status.TheVariants.{Done, Usage, Refused, DiskFault, ReadFault, WriteFault, NoMemory, NotAStore, Damaged, TooMuch}
@@ -64,4 +64,4 @@ serving_together = record {
 }
 
 pub one_script : HasOneScript
-one_script input first second says says' = let one = one_list input in one.only first says ∙ sym (one.only second says')
+one_script input first second says says' = let one = one_request_list input in one.only first says ∙ sym (one.only second says')

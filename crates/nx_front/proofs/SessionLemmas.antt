@@ -18,9 +18,8 @@ use Rattle.nx_replay.proofs.SettledLemmas.{is_some}
 use Rattle.nx_records.specs.Words.{Settings}
 use Rattle.nx_records.specs.Records.{HasHeader}
 use Rattle.nx_records.specs.Refusals.{IsNewStore}
-use Rattle.nx_script.specs.declared.command.Command.{Command}
-use Rattle.nx_script.specs.Commands.{AreCommands}
-use Rattle.nx_gen.specs.Commands.{commands}
+use Rattle.nx_script.specs.declared.request.Request.{Request}
+use Rattle.nx_script.specs.Requests.{AreRequests}
 use Rattle.nx_cuts.specs.Cut.{CutTree}
 use Rattle.nx_ship.specs.Stream.{Begins}
 use Rattle.nx_ship.specs.Applying.{applied_text}
@@ -33,9 +32,9 @@ use Rattle.nx_filters.specs.declared.status.Status.TheVariants.{Done, Usage, Ref
 use Rattle.nx_filters.specs.Outcome.{Meaning, RunsBeside}
 use Rattle.nx_front.specs.declared.words.CommandLine.{CommandLine}
 use Rattle.nx_front.specs.declared.words.CommandLine.TheVariants.{Tidy, Run, Plan, Verify, Init, Gen, Check, Find, Ship, Apply, Ask}
-use Rattle.nx_front.specs.Turns.{Turn, IsRun, state_after, commands_of}
+use Rattle.nx_front.specs.Turns.{Turn, IsRun, state_after, requests_of}
 use Rattle.nx_front.specs.Serving.{ServesFrom, AreFirst, AreWholeReplies, IsMoment}
-use Rattle.nx_front.specs.Generating.{generated, GeneratesFrom, FindsGenerated}
+use Rattle.nx_front.specs.Generating.{generated, generated_requests, GeneratesFrom, FindsGenerated}
 use Rattle.nx_front.specs.Checking.{Checks}
 use Rattle.nx_front.specs.Asking.{Asks}
 use Rattle.nx_front.specs.Finding.{Finds}
@@ -51,13 +50,13 @@ use Rattle.nx_front.proofs.InitLemmas.{init_together, holds_nothing}
 use Rattle.nx_front.proofs.MomentLemmas.{reached_none, every_moment}
 use Rattle.nx_front.proofs.ServingLaws.{serving_together}
 
--- the first commands of the bytes that were taken, and of what is left, are the first of the input
-begins : (taken : List ℕ) (commands : List Command) (before after : Option (List ℕ)) → Takes taken before after → AreFirst taken commands after → BeginInput commands before after
-begins taken commands before None takes first = tt
-begins taken commands None (Some left) takes first = tt
-begins taken commands (Some input) (Some left) takes (rest, are) =
+-- the first requests of the bytes that were taken, and of what is left, are the first of the input
+begins : (taken : List ℕ) (requests : List Request) (before after : Option (List ℕ)) → Takes taken before after → AreFirst taken requests after → BeginInput requests before after
+begins taken requests before None takes first = tt
+begins taken requests None (Some left) takes first = tt
+begins taken requests (Some input) (Some left) takes (rest, are) =
     let same : input ≡ taken ++ left = cc takes in
-    (rest, subst (λ (bytes : List ℕ). AreCommands bytes (commands ++ rest)) (sym same) are)
+    (rest, subst (λ (bytes : List ℕ). AreRequests bytes (requests ++ rest)) (sym same) are)
 
 -- A disk without pages has no header.
 no_header : (image : Image) → Recovers image None → HasHeader image → ⊥
@@ -130,8 +129,8 @@ module _ {D : Type 0} {d : Ghosts D} where
           done = take n from.turns;
           rest = drop n from.turns;
           run = subst (λ (turns : List Turn). IsRun state turns) (sym all) from.run;
-          first = subst (λ (turns : List Turn). BeginInput (commands_of turns) (d.beside session.before).input (d.beside session.after).input) (sym all)
-              (begins from.taken (commands_of from.turns) (d.beside session.before).input (d.beside session.after).input from.takes from.first);
+          first = subst (λ (turns : List Turn). BeginInput (requests_of turns) (d.beside session.before).input (d.beside session.after).input) (sym all)
+              (begins from.taken (requests_of from.turns) (d.beside session.before).input (d.beside session.after).input from.takes from.first);
           out = out;
           gave = gave;
           count = moment.count;
@@ -164,10 +163,10 @@ module _ {D : Type 0} {d : Ghosts D} where
   -- Generated commands:
 
   -- no command is done
-  none_carried : (all : List Command) (session : Session d) (state : State) → Keeps (d.beside session.before).output (session.stop).output → HasGenerated all session state (Some state)
+  none_carried : (all : List Request) (session : Session d) (state : State) → Keeps (d.beside session.before).output (session.stop).output → HasGenerated all session state (Some state)
   none_carried all session state keeps = record { done = []; rest = all; run = tt; first = refl; all_once_out = inl keeps; leads = refl }
 
-  carried : HasClock d → (all : List Command) (session : Session d) (state : State) → Recovers session.opened (Some state) →
+  carried : HasClock d → (all : List Request) (session : Session d) (state : State) → Recovers session.opened (Some state) →
       GeneratesFrom d all state session.status session.before session.after → Went session (HasGenerated all session state)
   carried clock all session state recovers from = elim (at_stop clock session from.time) [
     | inl (same, here) ↦ (
@@ -179,10 +178,10 @@ module _ {D : Type 0} {d : Ghosts D} where
       Some (state_after state done),
       record {
         done = done;
-        rest = commands_of rest ++ from.rest;
+        rest = requests_of rest ++ from.rest;
         run = run_up_to state done rest (subst (λ (turns : List Turn). IsRun state turns) (sym parts) from.run);
-        first = sym (append_assoc (commands_of done) (commands_of rest) from.rest)
-            ∙ ap (λ (l : List Command). l ++ from.rest) (sym (map-append (λ (turn : Turn). turn.command) done rest) ∙ ap commands_of parts)
+        first = sym (append_assoc (requests_of done) (requests_of rest) from.rest)
+            ∙ ap (λ (l : List Request). l ++ from.rest) (sym (map-append (λ (turn : Turn). turn.request) done rest) ∙ ap requests_of parts)
             ∙ from.first;
         all_once_out = inl keeps;
         leads = refl;
@@ -191,12 +190,12 @@ module _ {D : Type 0} {d : Ghosts D} where
     )
     | inr (inr (whole, told, is)) ↦ (
       Some (state_after state from.turns),
-      record { done = from.turns; rest = []; run = from.run; first = append-nil (commands_of from.turns) ∙ whole; all_once_out = inr refl; leads = refl },
+      record { done = from.turns; rest = []; run = from.run; first = append-nil (requests_of from.turns) ∙ whole; all_once_out = inr refl; leads = refl },
       is,
     )
   ]
 
-  generated_from : HasClock d → (all : List Command) (session : Session d) (state : State) → Recovers session.opened (Some state) → (document : Option CutTree) →
+  generated_from : HasClock d → (all : List Request) (session : Session d) (state : State) → Recovers session.opened (Some state) → (document : Option CutTree) →
       MatchOption document (GeneratesFrom d all state session.status session.before session.after) (λ known. FindsGenerated d session.status session.before session.after) →
       Went session (λ next. MatchOption document (HasGenerated all session state next) (λ known. next ≡ Some state))
   generated_from clock all session state recovers None from = carried clock all session state recovers from
@@ -237,7 +236,7 @@ module _ {D : Type 0} {d : Ghosts D} where
   ]
 
   giving_up : HasClock d → (settings : Settings) (session : Session d) (status : Status) → GivesUp d settings status session.before session.after → AtMaking settings session
-  giving_up clock settings session DiskFault (rose, goes) = elim (at_stop clock session goes.time) [
+  giving_up clock settings session DiskFault (rose, goes, still) = elim (at_stop clock session goes.time) [
     | inl (same, here) ↦ was_first settings session (kept session same) here
     | inr (keeps, is) ↦ inl (keeps, is session.told session.opened session.settled)
   ]
@@ -412,7 +411,7 @@ module _ {D : Type 0} {d : Ghosts D} where
   from_state clock Run session state recovers carried stand = answered clock session state recovers (carried.from session.opened state session.settled session.told recovers)
   from_state clock (Init settings) session state recovers carried stand = init_some clock settings session state recovers carried
   from_state clock (Gen seed n) session state recovers carried stand =
-      generated_from clock (commands seed n) session state recovers (generated state) (carried.from session.opened state session.settled session.told recovers)
+      generated_from clock (generated_requests seed n) session state recovers (generated state) (carried.from session.opened state session.settled session.told recovers)
   from_state clock Check session state recovers carried stand = check_stays clock session (Some state) recovers carried
   from_state clock Find session state recovers carried stand = find_stays clock session (Some state) recovers carried
   from_state clock (Ship start) session state recovers carried stand = ship_stays clock session (Some state) recovers carried

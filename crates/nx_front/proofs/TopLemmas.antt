@@ -69,7 +69,7 @@ module _ {D : Type 0} (d : Ghosts D) (a : D) where
   starved Find clock = finds_unopened d a a engine.Memory none_still tt (λ was settled. record { sound = λ held holds. omega arith; no_header = λ none. omega arith })
   starved (Ship start) clock = ships_nothing start none_still
   starved Apply clock = receives_nothing none_still
-  starved (Ask workers) clock = asks_untaken d a a asking.Memory none_still (λ was settled count is. omega arith) tt
+  starved (Ask workers) clock = asks_untaken d a a asking.Memory none_still (λ was settled. record { below = λ number said. omega arith; there = λ count is. omega arith }) tt
 
 module _ {D : Type 0} (d : Ghosts D) (a b : D) where
   -- the same command line

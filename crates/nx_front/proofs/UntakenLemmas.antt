@@ -10,56 +10,64 @@ use Rattle.nx_host.specs.Still.{IsStill}
 use Rattle.nx_host.specs.Time.{none_elapsed, elapsed_then, elapsed_weaker}
 use Rattle.nx_host.proofs.DiskLemmas.{keeps_self, keeps_then}
 use Rattle.nx_script.specs.declared.command.Command.{Command}
-use Rattle.nx_script.specs.declared.script.Script.{Script}
-use Rattle.nx_script.specs.Commands.{AreCommands, AreWhole}
-use Rattle.nx_script.specs.Script.{HasGivenIn, unread}
-use Rattle.nx_script.proofs.OneList.{whole_prefix, whole_more}
+use Rattle.nx_script.specs.Commands.{AreCommands}
+use Rattle.nx_script.specs.Script.{unread}
 use Rattle.nx_script.proofs.ScriptLemmas.{HasLooked, looked, parsed_whole}
+use Rattle.nx_script.specs.declared.request.Request.{Request}
+use Rattle.nx_script.specs.declared.requests.Requests.{Requests}
+use Rattle.nx_script.specs.Requests.{AreRequests, AreWholeRequests, cut_off_request, HasGrouped, HasGivenRequestsIn}
+use Rattle.nx_script.proofs.OneRequestList.{requests_prefix, requests_more}
+use Rattle.nx_script.proofs.RequestLemmas.{kept_uncommitted}
 use Rattle.nx_filters.specs.declared.give.GiveError.{GiveError}
 use Rattle.nx_filters.specs.Outcome.{Given}
 use Rattle.nx_front.specs.Serving.{AreOfTaken, LeavesAll}
 use Rattle.nx_filters.proofs.OutcomeLemmas.{given_prefix}
 use Rattle.nx_front.proofs.ServingLaws.{one_script}
 
--- The commands of the bytes:
+-- The requests of the bytes:
 
 -- a script gives those that are whole in the bytes, or all of them at their end
-pub of_taken : (script : Script) (taken : List ℕ) (commands : List Command) (first now : Option (List ℕ)) → HasGivenIn script taken commands first now → AreOfTaken taken commands first now
-of_taken script taken commands first now given = by script.finished refl
+pub of_taken : (script : Requests) (taken : List ℕ) (requests : List Request) (first now : Option (List ℕ)) → HasGivenRequestsIn script taken requests first now → AreOfTaken taken requests first now
+of_taken script taken requests first now given = elim given.given.grouped [ inl grouped ↦ by script.script.finished refl grouped | inr all ↦ ended_so (all.finished) [] (subst (λ (rs : List Request). AreRequests taken rs) (sym (append-nil requests)) all.all) ]
   where
-    by : (f : Bool) → script.finished ≡ f → AreOfTaken taken commands first now
-    by true is =
-        let (end, few) = given.end (given.given.ended is) in
-        let all = MatchBool-at_true (AreCommands taken commands) (HasLooked script taken commands) is given.given.given in
-        ([], inr (record { takes = given.takes; end = end; few = few }, subst (λ (cs : List Command). AreCommands taken cs) (sym (append-nil commands)) all))
-    by false is =
-        let (seen, parts, parsed) = looked script taken commands is given.given in
-        let (rest, whole) = whole_more seen (unread script) commands (parsed_whole script.parser seen commands parsed) in
-        (rest, inl (subst (λ (l : List ℕ). AreWhole l (commands ++ rest)) (sym parts) whole))
+    came : List Command
+    came = given.given.commands
+
+    ended_so : script.script.finished ≡ true → (rest : List Request) → AreRequests taken (requests ++ rest) → AreOfTaken taken requests first now
+    ended_so finished rest are = let (end, few) = given.end (given.given.script.ended finished) in (rest, inr (record { takes = given.takes; end = end; few = few }, are))
+
+    by : (f : Bool) → script.script.finished ≡ f → HasGrouped script.begun came requests → AreOfTaken taken requests first now
+    by true is grouped =
+        let all = MatchBool-at_true (AreCommands taken came) (HasLooked script.script taken came) is given.given.script.given in
+        ended_so is (cut_off_request grouped.rest) (came, requests, grouped.rest, all, grouped.gives, kept_uncommitted script.begun grouped.rest grouped.keeps, refl)
+    by false is grouped =
+        let (seen, parts, parsed) = looked script.script taken came is given.given.script in
+        let (rest, whole) = requests_more seen (unread script.script) requests (came, grouped.rest, parsed_whole script.script.parser seen came parsed, grouped.gives, kept_uncommitted script.begun grouped.rest grouped.keeps) in
+        (rest, inl (subst (λ (l : List ℕ). AreWholeRequests l (requests ++ rest)) (sym parts) whole))
 
 -- the first of them
-pub first_of_taken : (taken : List ℕ) (commands rest all : List Command) {first now : Option (List ℕ)} → commands ++ rest ≡ all → AreOfTaken taken all first now → AreOfTaken taken commands first now
-first_of_taken taken commands rest all is (others, inl whole) =
-    (rest ++ others, inl (subst (λ (cs : List Command). AreWhole taken cs) (ap (λ (cs : List Command). cs ++ others) (sym is) ∙ append_assoc commands rest others) whole))
-first_of_taken taken commands rest all is (others, inr (ends, are)) =
-    (rest ++ others, inr (ends, subst (λ (cs : List Command). AreCommands taken cs) (ap (λ (cs : List Command). cs ++ others) (sym is) ∙ append_assoc commands rest others) are))
+pub first_of_taken : (taken : List ℕ) (requests rest all : List Request) {first now : Option (List ℕ)} → requests ++ rest ≡ all → AreOfTaken taken all first now → AreOfTaken taken requests first now
+first_of_taken taken requests rest all is (others, inl whole) =
+    (rest ++ others, inl (subst (λ (rs : List Request). AreWholeRequests taken rs) (ap (λ (rs : List Request). rs ++ others) (sym is) ∙ append_assoc requests rest others) whole))
+first_of_taken taken requests rest all is (others, inr (ends, are)) =
+    (rest ++ others, inr (ends, subst (λ (rs : List Request). AreRequests taken rs) (ap (λ (rs : List Request). rs ++ others) (sym is) ∙ append_assoc requests rest others) are))
 
 -- none of no bytes
 pub none_of_taken : (first now : Option (List ℕ)) → AreOfTaken [] [] first now
-none_of_taken first now = ([], inl ([], refl, tt))
+none_of_taken first now = ([], inl ([], [], ([], refl, tt), refl, tt))
 
-none_are : AreCommands [] []
-none_are = ([], [], refl, tt, refl)
+none_are : AreRequests [] []
+none_are = ([], [], [], ([], [], refl, tt, refl), refl, tt, refl)
 
-all_none : (commands rest : List Command) → commands ++ rest ≡ [] → commands ≡ []
+all_none : (requests rest : List Request) → requests ++ rest ≡ [] → requests ≡ []
 all_none [] rest none = refl
-all_none (c ∷ commands) rest none = absurd (cc none)
+all_none (c ∷ requests) rest none = absurd (cc none)
 
-no_commands : (commands : List Command) {first now : Option (List ℕ)} → AreOfTaken [] commands first now → commands ≡ []
-no_commands commands (rest, inl whole) =
-    let (more, are) = whole_prefix [] [] (commands ++ rest) whole in
-    all_none commands rest (all_none (commands ++ rest) more (one_script [] ((commands ++ rest) ++ more) [] are none_are))
-no_commands commands (rest, inr (ends, are)) = all_none commands rest (one_script [] (commands ++ rest) [] are none_are)
+no_commands : (requests : List Request) {first now : Option (List ℕ)} → AreOfTaken [] requests first now → requests ≡ []
+no_commands requests (rest, inl whole) =
+    let (more, are) = requests_prefix [] [] (requests ++ rest) whole in
+    all_none requests rest (all_none (requests ++ rest) more (one_script [] ((requests ++ rest) ++ more) [] are none_are))
+no_commands requests (rest, inr (ends, are)) = all_none requests rest (one_script [] (requests ++ rest) [] are none_are)
 
 no_bytes_before : (taken left : List ℕ) → left ≡ taken ++ left → taken ≡ []
 no_bytes_before [] left is = refl
@@ -74,15 +82,15 @@ nothing_taken taken first (Some left) takes told same =
     let all : Some left ≡ Some (taken ++ left) = same ∙ takes in
     no_bytes_before taken left (let e : left ≡ taken ++ left = cc all in e)
 
--- a script from which no byte was taken gave no command
-pub none_came : {script : Script} {taken : List ℕ} {commands : List Command} {first now : Option (List ℕ)} → HasGivenIn script taken commands first now → IsSome now × (now ≡ first) → commands ≡ []
-none_came {script = script} {taken = taken} {commands = commands} {first = first} {now = now} given (told, same) =
-    no_commands commands
-    (subst (λ (l : List ℕ). AreOfTaken l commands first now) (nothing_taken taken first now given.takes told same) (of_taken script taken commands first now given))
+-- a script from which no byte was taken gave no request
+pub none_came : {script : Requests} {taken : List ℕ} {requests : List Request} {first now : Option (List ℕ)} → HasGivenRequestsIn script taken requests first now → IsSome now × (now ≡ first) → requests ≡ []
+none_came {script = script} {taken = taken} {requests = requests} {first = first} {now = now} given (told, same) =
+    no_commands requests
+    (subst (λ (l : List ℕ). AreOfTaken l requests first now) (nothing_taken taken first now given.takes told same) (of_taken script taken requests first now given))
 
-pub not_none : (commands : List Command) (command : Command) → commands ++ command ∷ [] ≡ [] → ⊥
-not_none [] command none = cc none
-not_none (c ∷ commands) command none = cc none
+pub not_none : (requests : List Request) (request : Request) → requests ++ request ∷ [] ≡ [] → ⊥
+not_none [] request none = cc none
+not_none (c ∷ requests) request none = cc none
 
 -- where nothing is given the output stays
 prefix_nothing : (old now : Option (List ℕ)) → AppendsPrefix [] old now → Keeps old now

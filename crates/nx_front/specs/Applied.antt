@@ -11,7 +11,7 @@ use Rattle.nx_records.specs.Records.{HasHeader}
 use Rattle.nx_ship.specs.Words.{Pages, Group, over, entry_pages, over_all}
 use Rattle.nx_ship.specs.Stream.{IsPartOfGroup, Begins}
 use Rattle.nx_ship.specs.Next.{IsOpenFor, ComeInTurn, StayDense}
-use Rattle.nx_ship.specs.Sending.{HasWrongHeader}
+use Rattle.nx_ship.specs.Lost.{LacksNone, ShowsNoState}
 use Rattle.nx_ship.specs.Applying.{applied_text, ShowsApplied, groups_in, HasLogged, AreIn, IsOutOfTurn, IsNoBase, IsNoGroup}
 use Rattle.nx_state.specs.State.{State}
 use Rattle.nx_state.specs.Stands.{Stands, Recovers}
@@ -91,10 +91,11 @@ pub record ShowsGroups {D : Type 0} (d : Ghosts D) (start : Pages) (groups : Lis
   pub time : Elapses d.moment d.stood_since old new (ShowsTaken (d.beside old).output start groups rest (d.beside new).input)
   pub all_in : EndsApplied d start groups rest status old new
 
--- The store has a header, or there is no page; and the groups were applied to it, each the next one, with which the bytes begin that were taken; and why no others were. What is said of images and of what is out holds where
+-- The store has a header and lost no page, or there is no page; and the groups were applied to it, each the next one, with which the bytes begin that were taken; and why no others were. What is said of images and of what is out holds where
 -- the groups, laid over the pages in order, never leave a page missing below the greatest.
 pub record TakesGroups {D : Type 0} (d : Ghosts D) (was : Image) (status : Status) (old new : D) : Type 0 where
   pub opened : IsOpenFor (replay was)
+  pub whole : LacksNone was
   pub taken : List ℕ
   pub takes : Takes taken (d.beside old).input (d.beside new).input
   pub few : length taken ≤ most_input
@@ -105,10 +106,10 @@ pub record TakesGroups {D : Type 0} (d : Ghosts D) (was : Image) (status : Statu
   pub why : EndsTaking (replay was) taken groups rest (d.beside new).input status
   pub shows : StayDense (replay was) groups → ShowsGroups d (replay was) groups rest status old new
 
--- why nothing was taken: there are pages, and no header; or page 0, which begins as one, is none; or a call of the disk failed, or there was no memory
+-- why nothing was taken: there are pages, and no header; or page 0, which begins as one, is none, or pages are lost; or a call of the disk failed, or there was no memory
 abbrev pub IsUntaken : Image → Status → Type 0
 IsUntaken was NotAStore = (HasHeader was → ⊥) × HasPage was
-IsUntaken was (Damaged page) = HasHeader was × HasWrongHeader (replay was) page
+IsUntaken was (Damaged page) = HasHeader was × ShowsNoState page was
 IsUntaken was DiskFault = Unit {0}
 IsUntaken was NoMemory = Unit {0}
 IsUntaken was _ = ⊥
@@ -122,7 +123,7 @@ IsApplyingCaused d WriteFault old new = Rose (d.beside old).out_faults (d.beside
 IsApplyingCaused d TooMuch old new = (taken : List ℕ) × (length taken ≡ most_input) × Takes taken (d.beside old).input (d.beside new).input
 IsApplyingCaused d Done old new = (taken : List ℕ) × (length taken < most_input) × Takes taken (d.beside old).input (d.beside new).input × IsAtEnd (d.beside new).input
 IsApplyingCaused d NotAStore old new = (was : Image) → IsSettled d old was → (HasHeader was → ⊥) × HasPage was
-IsApplyingCaused d (Damaged page) old new = (was : Image) → IsSettled d old was → HasHeader was × HasWrongHeader (replay was) page
+IsApplyingCaused d (Damaged page) old new = (was : Image) → IsSettled d old was → HasHeader was × ShowsNoState page was
 IsApplyingCaused d Refused old new = Unit {0}
 IsApplyingCaused d NoMemory old new = Unit {0}
 IsApplyingCaused d Usage old new = ⊥

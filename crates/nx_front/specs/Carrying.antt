@@ -3,7 +3,8 @@ use Rattle.std.specs.Prelude.{◌≡◌, ℕ, List, [], ◌∷◌, ◌++◌, len
 use Rattle.std.specs.Str.{bytes_eq}
 use Rattle.nx_host.specs.declared.disk.Disk.{Ghosts}
 use Rattle.nx_host.specs.Still.{WritesAlone}
-use Rattle.nx_script.specs.declared.command.Command.{Command}
+use Rattle.nx_script.specs.declared.request.Request.{Request}
+use Rattle.nx_script.specs.declared.request.Answer.{Answer}
 use Rattle.nx_script.specs.declared.reply.DocLine.{DocLine}
 use Rattle.nx_script.specs.declared.reply.Reply.{Reply}
 use Rattle.nx_script.specs.declared.reply.Reply.TheVariants as reply
@@ -12,7 +13,7 @@ use Rattle.nx_store.specs.declared.store.Store.{Store}
 use Rattle.nx_store.specs.declared.error.EngineError.{EngineError}
 use Rattle.nx_store.specs.declared.error.EngineError.TheVariants as engine
 use Rattle.nx_store.specs.Store.{IsAt, Shows}
-use Rattle.nx_front.specs.Turns.{Turn, IsRun, state_after, commands_of, replies_of, IsAfterSome}
+use Rattle.nx_front.specs.Turns.{Turn, IsRun, state_after, requests_of, replies_of, IsAfterSome}
 use Rattle.nx_front.specs.Generating.{summary_of}
 
 -- how many nodes the first document of that name has, in a list of documents
@@ -31,21 +32,21 @@ pub record HasTurned {D : Type 0} (d : Ghosts D) (state : State) (turns : List T
   pub at : IsAt d store now (state_after state turns)
   pub time : Shows d (IsAfterSome state turns) first now
 
--- Of these commands this many were carried out, with these replies; and so there were such turns from each state that the store was at.
-pub record IsCarrying {D : Type 0} (d : Ghosts D) (begun : Store) (commands : List Command) (replies : List Reply) (store : Store) (first now : D) : Type 0 where
+-- Of these requests this many were carried out, with these replies; and so there were such turns from each state that the store was at.
+pub record IsCarrying {D : Type 0} (d : Ghosts D) (begun : Store) (requests : List Request) (replies : List Answer) (store : Store) (first now : D) : Type 0 where
   pub areas : WritesAlone d first now (λ _. Unit {0})
   pub had : (state : State) → IsAt d begun first state → IsSome (d.contents now) →
-      (turns : List Turn) × (commands_of turns ≡ commands) × (replies_of turns ≡ replies) × HasTurned d state turns store first now
+      (turns : List Turn) × (requests_of turns ≡ requests) × (replies_of turns ≡ replies) × HasTurned d state turns store first now
 
 -- All these commands were carried out, and the text tells what came of them.
-pub record HasCarried {D : Type 0} (d : Ghosts D) (all : List Command) (text : List ℕ) (state : State) (store : Store) (first now : D) : Type 0 where
+pub record HasCarried {D : Type 0} (d : Ghosts D) (all : List Request) (text : List ℕ) (state : State) (store : Store) (first now : D) : Type 0 where
   pub turns : List Turn
-  pub all_are : commands_of turns ≡ all
+  pub all_are : requests_of turns ≡ all
   pub turned : HasTurned d state turns store first now
   pub text_is : text ≡ summary_of state turns
 
 -- ... from each state that the store was at
-abbrev pub CarriesOut : {D : Type 0} → Ghosts D → List Command → List ℕ → Store → Store → D → D → Type 0
+abbrev pub CarriesOut : {D : Type 0} → Ghosts D → List Request → List ℕ → Store → Store → D → D → Type 0
 CarriesOut d all text begun store first now = (state : State) → IsAt d begun first state → IsSome (d.contents now) → HasCarried d all text state store first now
 
 -- with one of these they stop, from a state that the store was at
@@ -55,14 +56,14 @@ CutsShort engine.Memory = Unit {0}
 CutsShort _ = ⊥
 
 -- The first of these commands were carried out, or one more was begun.
-pub record CarriesSome {D : Type 0} (d : Ghosts D) (all : List Command) (error : EngineError) (state : State) (first now : D) : Type 0 where
+pub record CarriesSome {D : Type 0} (d : Ghosts D) (all : List Request) (error : EngineError) (state : State) (first now : D) : Type 0 where
   pub short : CutsShort error
   pub turns : List Turn
   pub run : IsRun state turns
-  pub rest : List Command
-  pub parts : commands_of turns ++ rest ≡ all
+  pub rest : List Request
+  pub parts : requests_of turns ++ rest ≡ all
   pub time : Shows d (IsAfterSome state turns) first now
 
 -- ... from each state that the store was at
-abbrev pub StopsCarrying : {D : Type 0} → Ghosts D → List Command → EngineError → Store → D → D → Type 0
+abbrev pub StopsCarrying : {D : Type 0} → Ghosts D → List Request → EngineError → Store → D → D → Type 0
 StopsCarrying d all error begun first now = (state : State) → IsAt d begun first state → IsSome (d.contents now) → CarriesSome d all error state first now

@@ -1,6 +1,6 @@
 -- The command line: which words are one, and for what.
-use Rattle.std.specs.Prelude.{ℕ, ◌/◌, ◌^◌, ◌<◌, ◌≤◌, Bool, false, not, ◌&&◌, ◌||◌, ◌==◌, nat_le, if◌then◌else◌, List, [], ◌∷◌, length, Option, None, Some, codes}
-use Rattle.std.specs.List.{list_all}
+use Rattle.std.specs.Prelude.{ℕ, ◌/◌, ◌^◌, ◌<◌, ◌≤◌, Bool, true, false, not, ◌&&◌, ◌||◌, ◌==◌, eqb, nat_le, if◌then◌else◌, List, [], ◌∷◌, length, Option, None, Some, codes}
+use Rattle.std.specs.List.{ends_with, list_all}
 use Rattle.std.specs.Str.{bytes_eq}
 use Rattle.std.specs.Option.{option_map}
 use Rattle.nx_tree.specs.Document.{is_empty}
@@ -16,9 +16,13 @@ abbrev pub is_store : List ℕ → Bool
 is_store [] = false
 is_store (b ∷ bytes) = not (b == 45)
 
--- a word that names a store that is used: not a low line, which stands for none
+-- a word that ends as the name of a log does, so that it may be the log of another store
+abbrev pub is_log_name : List ℕ → Bool
+is_log_name word = ends_with eqb word (codes ".log")
+
+-- a word that names a store that is used: not a low line, which stands for none, and not the name of a log
 abbrev pub is_named_store : List ℕ → Bool
-is_named_store store = is_store store && not (bytes_eq store (codes "_"))
+is_named_store store = is_store store && not (bytes_eq store (codes "_")) && not (is_log_name store)
 
 -- a decimal in this range, without a leading zero
 abbrev pub is_within : ℕ → ℕ → List ℕ → Bool
@@ -134,6 +138,23 @@ command_line_of store command _ = None
 abbrev pub command_line : List (List ℕ) → Option CommandLine
 command_line (store ∷ command ∷ words) = if bytes_eq command (codes "init") then command_of_init store words else command_line_of store command words
 command_line _ = None
+
+-- a command line that uses the store that it names: all but those that read a document and keep nothing
+abbrev pub uses_store : CommandLine → Bool
+uses_store Tidy = false
+uses_store (Plan k) = false
+uses_store (Verify k) = false
+uses_store line = true
+
+-- a word, where it is that of the store of a command line that uses one
+abbrev pub store_used : List ℕ → Option CommandLine → Option (List ℕ)
+store_used store None = None
+store_used store (Some line) = if uses_store line then Some store else None
+
+-- the word that names the store, where the words are a command line that uses one
+abbrev pub named_store : List (List ℕ) → Option (List ℕ)
+named_store [] = None
+named_store (store ∷ words) = store_used store (command_line (store ∷ words))
 
 -- the numbers that a command line says are in their ranges
 abbrev pub IsLimited : CommandLine → Type 0

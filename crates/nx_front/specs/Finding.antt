@@ -14,7 +14,7 @@ use Rattle.nx_pyx.specs.Field.{field, behind_space}
 use Rattle.nx_pyx.specs.Path.{path_text}
 use Rattle.nx_cuts.specs.Cut.{CutTree, tree_of}
 use Rattle.nx_layouts.specs.Layout.{AreOnce}
-use Rattle.nx_script.specs.Field.{is_document_name}
+use Rattle.nx_pyx.specs.DocumentName.{is_document_name}
 use Rattle.nx_script.specs.Whole.{AreLines, AreEnded}
 use Rattle.nx_script.specs.declared.whole.Line.{Line}
 use Rattle.nx_script.specs.declared.whole.Line.TheVariants.{Bytes}

@@ -68,9 +68,12 @@ pub record FindsPages {D : Type 0} (d : Ghosts D) (status : Status) (old new : D
   pub tells : TellsLine d exists_line old new
   pub pages : (was : Image) → IsSettled d old was → HasPage was
 
--- Nothing was given: a call of the disk failed, and each image is as the disk was, or the new store; or there was no memory, and both areas were left as they were.
+-- Nothing was given: a call of the disk failed, and each image is as the disk was, or the new store, and both areas were left as they were where the disk had
+-- a page; or there was no memory, and both areas were left as they were.
 abbrev pub GivesUp : {D : Type 0} → Ghosts D → Settings → Status → D → D → Type 0
-GivesUp d settings DiskFault old new = Rose (d.faults old) (d.faults new) × WritesAlone d old new (λ i. (was : Image) → IsSettled d old was → IsOldOrNew settings was i)
+GivesUp d settings DiskFault old new = Rose (d.faults old) (d.faults new)
+    × WritesAlone d old new (λ i. (was : Image) → IsSettled d old was → IsOldOrNew settings was i)
+    × ((was : Image) → IsSettled d old was → HasPage was → IsStill d old new)
 GivesUp d settings NoMemory old new = IsStill d old new
 GivesUp d settings _ old new = ⊥
 

@@ -65,7 +65,7 @@ IsCoherent (Ship start) = ServingHoldsTogether
 IsCoherent Apply = ApplyHoldsTogether
 IsCoherent (Ask workers) = ServingHoldsTogether
 
--- how the answers of an input go together: they have one text, but those of `plan` are only as good as each other; those of `run` are of one list of commands; a new store holds one thing;
+-- how the answers of an input go together: they have one text, but those of `plan` are only as good as each other; those of `run` are of one list of requests; a new store holds one thing;
 -- pages have one verdict; lines, and questions, have one text of replies, from a state; an image has one text of what is shipped, and a stream one row of groups; and of `gen` nothing is said, which takes no
 -- input
 abbrev pub AnswersAgree : CommandLine → Type 0

@@ -7,9 +7,8 @@ use Rattle.nx_host.specs.Host.{Takes, Appends}
 use Rattle.nx_host.specs.Still.{IsSettled, IsStill}
 use Rattle.nx_host.specs.Time.{Stood}
 use Rattle.nx_records.specs.Words.{replay, Settings}
-use Rattle.nx_script.specs.declared.command.Command.{Command}
-use Rattle.nx_script.specs.Commands.{AreCommands}
-use Rattle.nx_gen.specs.Commands.{commands}
+use Rattle.nx_script.specs.declared.request.Request.{Request}
+use Rattle.nx_script.specs.Requests.{AreRequests}
 use Rattle.nx_state.specs.State.{State, new_state}
 use Rattle.nx_ship.specs.Words.{Pages, Group, over_all}
 use Rattle.nx_ship.specs.Stream.{Begins}
@@ -18,9 +17,9 @@ use Rattle.nx_state.specs.Stands.{Stands, Recovers}
 use Rattle.nx_filters.specs.declared.status.Status.{Status}
 use Rattle.nx_front.specs.declared.words.CommandLine.{CommandLine}
 use Rattle.nx_front.specs.declared.words.CommandLine.TheVariants.{Run, Init, Gen, Apply}
-use Rattle.nx_front.specs.Turns.{Turn, IsRun, state_after, commands_of}
+use Rattle.nx_front.specs.Turns.{Turn, IsRun, state_after, requests_of}
 use Rattle.nx_front.specs.Serving.{AreWholeReplies, BeginsWith}
-use Rattle.nx_front.specs.Generating.{generated}
+use Rattle.nx_front.specs.Generating.{generated, generated_requests}
 use Rattle.nx_front.specs.Applied.{TakesGroups, IsUntaken, StandBehindEach}
 use Rattle.nx_front.specs.Run.{IsCarriedOut}
 
@@ -60,16 +59,16 @@ abbrev pub last_image : {D : Type 0} {d : Ghosts D} → Image → List (Session 
 last_image image [] = image
 last_image image (session ∷ sessions) = last_image (session.stop).image sessions
 
--- These commands begin the input, where it is told to the end.
-abbrev pub BeginInput : List Command → Option (List ℕ) → Option (List ℕ) → Type 0
-BeginInput commands before after = IfSome after (λ _. IfSome before (λ input. (rest : List Command) × AreCommands input (commands ++ rest)))
+-- These requests begin the input, where it is told to the end.
+abbrev pub BeginInput : List Request → Option (List ℕ) → Option (List ℕ) → Type 0
+BeginInput requests before after = IfSome after (λ _. IfSome before (λ input. (rest : List Request) × AreRequests input (requests ++ rest)))
 
 -- A `run` did the first turns of one run over its input: all whose replies are whole in what is out, and at most one more.
 pub record HasAnswered {D : Type 0} {d : Ghosts D} (session : Session d) (state : State) (next : Option State) : Type 0 where
   pub done : List Turn
   pub rest : List Turn
   pub run : IsRun state (done ++ rest)
-  pub first : BeginInput (commands_of (done ++ rest)) (d.beside session.before).input (d.beside session.after).input
+  pub first : BeginInput (requests_of (done ++ rest)) (d.beside session.before).input (d.beside session.after).input
   pub out : List ℕ
   pub gave : Appends out (d.beside session.before).output (session.stop).output
   pub count : ℕ
@@ -78,12 +77,12 @@ pub record HasAnswered {D : Type 0} {d : Ghosts D} (session : Session d) (state 
   pub one_more : length done ≤ count + 1
   pub leads : next ≡ Some (state_after state done)
 
--- A `gen` did the first of these commands, and all of them where anything is out.
-pub record HasGenerated {D : Type 0} {d : Ghosts D} (all : List Command) (session : Session d) (state : State) (next : Option State) : Type 0 where
+-- A `gen` did the first of its commands, each a request of its own, and all of them where anything is out.
+pub record HasGenerated {D : Type 0} {d : Ghosts D} (all : List Request) (session : Session d) (state : State) (next : Option State) : Type 0 where
   pub done : List Turn
-  pub rest : List Command
+  pub rest : List Request
   pub run : IsRun state done
-  pub first : commands_of done ++ rest ≡ all
+  pub first : requests_of done ++ rest ≡ all
   pub all_once_out : Keeps (d.beside session.before).output (session.stop).output ⊎ (rest ≡ [])
   pub leads : next ≡ Some (state_after state done)
 
@@ -115,7 +114,7 @@ pub record HasReceived {D : Type 0} {d : Ghosts D} (session : Session d) (next :
 -- what a session of this command line led to over a store in this state: where it didn't change it, the same
 abbrev pub LeadsFrom : {D : Type 0} {d : Ghosts D} → CommandLine → Session d → State → Option State → Type 0
 LeadsFrom Run session state next = HasAnswered session state next
-LeadsFrom (Gen seed n) session state next = MatchOption (generated state) (HasGenerated (commands seed n) session state next) (λ document. next ≡ Some state)
+LeadsFrom (Gen seed n) session state next = MatchOption (generated state) (HasGenerated (generated_requests seed n) session state next) (λ document. next ≡ Some state)
 LeadsFrom Apply session state next = HasReceived session next
 LeadsFrom _ session state next = next ≡ Some state
 
@@ -134,7 +133,7 @@ abbrev pub LeadInOrder : {D : Type 0} {d : Ghosts D} → List (Session d) → Op
 LeadInOrder [] held last = last ≡ held
 LeadInOrder (session ∷ sessions) held last = (next : Option State) × Leads session held next × LeadInOrder sessions next last
 
--- Over any sessions in order, the last image holds what the first one held after some commands of each session, one session after the other, all that it had
+-- Over any sessions in order, the last image holds what the first one held after some requests of each session, one session after the other, all that it had
 -- acknowledged among them.
 abbrev pub SessionsLead : {D : Type 0} → Ghosts D → Type 0
 SessionsLead d = (image : Image) (held : Option State) (sessions : List (Session d)) → AreSuccessive image sessions → Recovers image held →

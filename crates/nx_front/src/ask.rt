@@ -6,22 +6,22 @@ ghost use Rattle.nx_host.specs.Host.{Appends};
 ghost use Rattle.nx_host.specs.Phase.{TakesAlone, GivesAlone};
 ghost use Rattle.nx_script.specs.Reply.{reply_text};
 ghost use Rattle.nx_front.specs.Conversation.{conversation_status};
-ghost use Rattle.nx_front.specs.Asking.{Asks, batch_size};
+ghost use Rattle.nx_front.specs.Asking.{Asks, as_question, batch_size};
 ghost use Rattle.nx_front.specs.Batches.{ReadsBatch, StopsBatch, AreAnswers, StopsAnswering, AnswersBatch, LeavesBatch, AsksAll, status_of_asking};
 
 use crate::Status;
 use nx_ask::{AskError, Replies, Snapshot, answer_all};
 use nx_host::{Disk, Failed, Host};
 use nx_par::NoGate;
-use nx_script::{Command, Script, push_reply};
+use nx_script::{Command, Request, Requests, push_reply};
 use nx_tree::{Bytes, NoMemory};
 use std::alloc::Global;
 use std::thread::Threads;
 
-// How many commands are answered at once.
+// How many requests are answered at once.
 const BATCH: usize = 1_024;
 
-// Answers every command of the input as a question over a snapshot of the store on the disk, in order, by so many workers. The commands are
+// Answers every request of the input as a question over a snapshot of the store on the disk, in order, by so many workers. The requests are
 // taken in batches, and the replies to a batch are given when there are all of them.
 pub fn ask<R: Threads + Sync, H: Host>(rt: &R, alloc: Global, host: &mut H, workers: u32) -> Status
     requires { 1 ≤ workers }
@@ -36,7 +36,7 @@ pub fn ask<R: Threads + Sync, H: Host>(rt: &R, alloc: Global, host: &mut H, work
     }
 }
 
-// Answers every command of the input.
+// Answers every request of the input.
 fn answer_input<R: Threads + Sync, H: Host>(
     rt: &R,
     alloc: Global,
@@ -47,7 +47,7 @@ fn answer_input<R: Threads + Sync, H: Host>(
     requires { 1 ≤ workers }
     ensures { AsksAll ⟦<H as Disk>⟧ snapshot.now (conversation_status result) host.old host.new }
 {
-    let mut script = Script::new(alloc)?;
+    let mut script = Requests::new(alloc)?;
     for _ in 0..u64::MAX {
         let batch = read_batch(alloc, host, &mut script)?;
         answer_batch(rt, alloc, host, snapshot, batch.as_slice(), workers)?;
@@ -59,11 +59,11 @@ fn answer_input<R: Threads + Sync, H: Host>(
     Err(Status::NoMemory)
 }
 
-// The next commands: as many as a batch has, or all that are left.
+// What the next requests ask: as many as a batch has, or all that are left.
 fn read_batch<H: Host>(
     alloc: Global,
     host: &mut H,
-    script: &mut Script,
+    script: &mut Requests,
 ) -> Result<Vec<Command>, Status>
     ensures ok { IfOk result (λ batch. ReadsBatch batch.items script.old script.new (H.beside host.old).input (H.beside host.new).input) }
     ensures most { IfOk result (λ batch. length batch.items ≤ batch_size) }
@@ -74,14 +74,24 @@ fn read_batch<H: Host>(
         return Err(Status::NoMemory);
     };
     while batch.len() < BATCH {
-        let Some(command) = script.next(host)? else {
+        let Some(request) = script.next(host)? else {
             return Ok(batch);
         };
-        let Ok(_) = batch.push(command) else {
+        let Ok(_) = batch.push(as_question(request)) else {
             return Err(Status::NoMemory);
         };
     }
     Ok(batch)
+}
+
+// The question that the request is. A transaction asks nothing, and is answered as a line that is no command.
+fn as_question(request: Request) -> Command
+    ensures { result ≡ as_question request }
+{
+    match request {
+        Request::Single(command) => command,
+        Request::Transaction(_) => Command::Bad,
+    }
 }
 
 // Answers a batch of questions, and gives the texts of the replies. Where they aren't all there, nothing is given.

@@ -25,7 +25,7 @@ use std::alloc::Global;
 pub fn answer_questions<H: Host>(alloc: Global, host: &mut H) -> Status
     ensures { Finds ⟦<H as Disk>⟧ result host.old host.new }
 {
-    match Store::open(alloc, host) {
+    match Store::open_to_read(alloc, host) {
         Ok(mut store) => match answer_all(alloc, host, &mut store) {
             Ok(()) => Status::Done,
             Err(status) => status,

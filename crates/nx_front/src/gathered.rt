@@ -1,7 +1,7 @@
 // The labels of documents that were asked for, each gathered once.
 ghost use Rattle.std.proofs.Props.{props};
 ghost use Rattle.std.specs.BTreeMap.{IsOrdered};
-ghost use Rattle.nx_script.specs.Field.{vector_order};
+ghost use Rattle.nx_pyx.specs.DocumentName.{vector_order};
 
 use nx_find::Names;
 use nx_lists::NoMemory;

@@ -2,13 +2,14 @@
 ghost use Rattle.std.specs.Prelude.{◌≡◌, ◌<◌, ◌≤◌, ◌+◌, ◌^◌, ℕ, if◌then◌else◌, map, length, IfOk, IfErr, IsSome, string_bytes};
 ghost use Rattle.std.specs.FinMap.{entries};
 ghost use Rattle.nx_host.specs.Still.{WritesAlone};
-ghost use Rattle.nx_gen.specs.Commands.{gen_name, commands};
+ghost use Rattle.nx_gen.specs.Commands.{gen_name};
 ghost use Rattle.nx_state.specs.State.{State};
+ghost use Rattle.nx_steps.specs.Requests.{is_refused};
 ghost use Rattle.nx_store.specs.Told.{line_of};
 ghost use Rattle.nx_store.specs.Store.{IsAt};
 ghost use Rattle.nx_store.specs.declared.error.EngineError.TheVariants as engine;
 ghost use Rattle.nx_front.specs.Conversation.{IsUnanswered, status_of_engine};
-ghost use Rattle.nx_front.specs.Generating.{is_refused, summary_text, Generates};
+ghost use Rattle.nx_front.specs.Generating.{generated_requests, summary_text, Generates};
 ghost use Rattle.nx_front.specs.Carrying.{exported_size, listed_nodes, CarriesOut, StopsCarrying};
 
 use crate::Status;
@@ -66,9 +67,9 @@ fn carry_out<R: Threads + Sync, D: Disk>(
     requires seed { seed < 2 ^ 31 }
     requires some { 1 ≤ n }
     requires few { n ≤ 100000 }
-    ensures ok { IfOk result (λ summary. CarriesOut D.Disk (commands seed n) (string_bytes summary) store.old store.new disk.old disk.new) }
+    ensures ok { IfOk result (λ summary. CarriesOut D.Disk (generated_requests seed n) (string_bytes summary) store.old store.new disk.old disk.new) }
     ensures some { IfOk result (λ summary. 1 ≤ length (string_bytes summary)) }
-    ensures err { IfErr result (λ e. StopsCarrying D.Disk (commands seed n) e store.old disk.old disk.new) }
+    ensures err { IfErr result (λ e. StopsCarrying D.Disk (generated_requests seed n) e store.old disk.old disk.new) }
     ensures cause { IfErr result (λ e. IsUnanswered D.Disk (status_of_engine e) disk.old disk.new) }
     ensures areas { WritesAlone D.Disk disk.old disk.new (λ _. Unit {0}) }
 {

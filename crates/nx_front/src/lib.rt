@@ -18,3 +18,4 @@ mod words;
 pub use nx_filters::Status;
 pub use nx_words::{Word, Words};
 pub use top::run;
+pub use words::named_store;

@@ -4,8 +4,8 @@ ghost use Rattle.nx_script.specs.declared.whole.Line.TheVariants.{Bytes};
 ghost use Rattle.nx_front.specs.Finding.{AsksFor, AsksNothing};
 
 use nx_find::{Steps, read_steps};
-use nx_pyx::split_field;
-use nx_script::{Line, is_document_name};
+use nx_pyx::{is_document_name, split_field};
+use nx_script::Line;
 use nx_tree::{Bytes, NoMemory};
 use std::alloc::Global;
 

@@ -1,26 +1,28 @@
 // A run of a script over a store.
 ghost use Rattle.std.specs.Prelude.{◌≡◌, ℕ, List, true, false, OnOk, IfErr};
-ghost use Rattle.nx_script.specs.declared.command.Command.{Command};
+ghost use Rattle.nx_script.specs.declared.request.Request.{Request};
+ghost use Rattle.nx_script.specs.declared.request.Request.TheVariants.{Single};
 ghost use Rattle.nx_script.specs.Commands.{CanCome};
-ghost use Rattle.nx_script.specs.Script.{HasGiven, IsDrained};
+ghost use Rattle.nx_script.specs.Script.{IsDrained};
+ghost use Rattle.nx_script.specs.Requests.{HasGivenRequests, CanComeRequest};
 ghost use Rattle.nx_steps.specs.Step.{may_change};
-ghost use Rattle.nx_store.specs.Store.{TakesNone};
-ghost use Rattle.nx_store.specs.Staying.{HoldsOn};
+ghost use Rattle.nx_store.specs.Store.{TakesNone, HoldsOn};
 ghost use Rattle.nx_store.specs.Reads.{is_lookup, ReadsWithin};
+ghost use Rattle.nx_front.specs.Lookups.{is_lookup_request, ReadsRequestWithin};
 ghost use Rattle.nx_front.specs.Serving.{Serves};
 ghost use Rattle.nx_front.specs.Conversation.{AnswersNext, BeginsNext, IsUnanswered, AnswersAll, EndsConversing, Converses, conversation_status, status_of_engine};
 
 use crate::Status;
 use nx_filters::{BLOCK, give_block};
 use nx_host::{Disk, Host};
-use nx_script::{Command, Script, push_reply};
+use nx_script::{Command, Request, Requests, push_reply};
 use nx_steps::may_change;
 use nx_store::{EngineError, Store};
 use nx_tree::Bytes;
 use std::alloc::Global;
 use std::thread::Threads;
 
-// Answers every command of the input from the store on the disk, in order. The replies to the commands that
+// Answers every request of the input from the store on the disk, in order. The replies to the requests that
 // are whole in what was read are given before more is read, and before the next commit begins.
 pub fn serve<R: Threads + Sync, H: Host>(rt: &R, alloc: Global, host: &mut H) -> Status
     ensures { Serves ⟦<H as Disk>⟧ result host.old host.new }
@@ -34,7 +36,7 @@ pub fn serve<R: Threads + Sync, H: Host>(rt: &R, alloc: Global, host: &mut H) ->
     }
 }
 
-// Answers every command of the input.
+// Answers every request of the input.
 fn converse<R: Threads + Sync, H: Host>(
     rt: &R,
     alloc: Global,
@@ -43,7 +45,7 @@ fn converse<R: Threads + Sync, H: Host>(
 ) -> Result<(), Status>
     ensures { Converses ⟦<H as Disk>⟧ store.old (conversation_status result) host.old host.new }
 {
-    let mut script = Script::new(alloc)?;
+    let mut script = Requests::new(alloc)?;
     let mut block = Bytes::new(alloc);
     loop {
         answer_ready(rt, host, store, &mut script, &mut block)?;
@@ -55,55 +57,60 @@ fn converse<R: Threads + Sync, H: Host>(
     }
 }
 
-// Answers every command that is whole in what was read. The last of the replies' texts are left in the
+// Answers every request that is whole in what was read. The last of the replies' texts are left in the
 // block.
 fn answer_ready<R: Threads + Sync, H: Host>(
     rt: &R,
     host: &mut H,
     store: &mut Store,
-    script: &mut Script,
+    script: &mut Requests,
     block: &mut Bytes,
 ) -> Result<(), Status>
-    requires { (taken : List ℕ) × (commands : List Command) × HasGiven script.old taken commands }
+    requires { (taken : List ℕ) × (requests : List Request) × HasGivenRequests script.old taken requests }
     ensures ok { OnOk result (AnswersAll ⟦<H as Disk>⟧ script.old script.new store.old store.new block.old block.new host.old host.new) }
-    ensures drained { OnOk result (IsDrained script.new) }
-    ensures taken { OnOk result (script.new.input.taken ≡ script.old.input.taken) }
-    ensures ended { OnOk result (script.new.ended ≡ script.old.ended) }
+    ensures drained { OnOk result (IsDrained script.new.script) }
+    ensures taken { OnOk result (script.new.script.input.taken ≡ script.old.script.input.taken) }
+    ensures ended { OnOk result (script.new.script.ended ≡ script.old.script.ended) }
     ensures err { IfErr result (λ status. EndsConversing ⟦<H as Disk>⟧ status script.old store.old block.old host.old host.new) }
 {
     loop {
-        let Some(command) = script.ready()? else {
+        let Some(request) = script.ready()? else {
             return Ok(());
         };
-        answer(rt, host, store, block, command)?;
+        answer(rt, host, store, block, request)?;
         if block.len() >= BLOCK {
             give_block(host, block)?;
         }
     }
 }
 
-// Answers a command: adds the reply's text to the block, or gives what the block has and a prefix of the
-// text where it is long. All replies before a command that may write to the disk are given first, and its
-// own at once.
+// Answers a request: adds the reply's text to the block, or gives what the block has and a prefix of the
+// text where it is long. All replies before a request that may write to the disk are given first, and its
+// own at once; a transaction is such a one.
 fn answer<R: Threads + Sync, H: Host>(
     rt: &R,
     host: &mut H,
     store: &mut Store,
     block: &mut Bytes,
-    command: Command,
+    request: Request,
 ) -> Result<(), Status>
-    requires { CanCome command }
-    ensures ok { OnOk result (AnswersNext ⟦<H as Disk>⟧ command store.old store.new block.old block.new host.old host.new) }
-    ensures err { IfErr result (λ status. BeginsNext ⟦<H as Disk>⟧ command status store.old block.old host.old host.new) }
+    requires { CanComeRequest request }
+    ensures ok { OnOk result (AnswersNext ⟦<H as Disk>⟧ request store.old store.new block.old block.new host.old host.new) }
+    ensures err { IfErr result (λ status. BeginsNext ⟦<H as Disk>⟧ request status store.old block.old host.old host.new) }
     ensures cause { IfErr result (λ status. IsUnanswered ⟦<H as Disk>⟧ status host.old host.new) }
     ensures beside { TakesNone ⟦<H as Disk>⟧ host.old host.new }
-    ensures holds { is_lookup command ≡ true → OnOk result (HoldsOn ⟦<H as Disk>⟧ store.old store.new host.old host.new) }
-    ensures reads { is_lookup command ≡ true → ReadsWithin ⟦<H as Disk>⟧ command store.old host.old host.new }
+    ensures holds { is_lookup_request request ≡ true → OnOk result (HoldsOn ⟦<H as Disk>⟧ store.old store.new host.old host.new) }
+    ensures reads { is_lookup_request request ≡ true → ReadsRequestWithin ⟦<H as Disk>⟧ request store.old host.old host.new }
 {
-    if writes(&command) {
-        return answer_alone(rt, host, store, block, command);
+    match request {
+        Request::Single(command) => {
+            if writes(&command) {
+                return answer_alone(rt, host, store, block, Request::Single(command));
+            }
+            answer_behind(rt, host, store, block, command)
+        }
+        transaction => answer_alone(rt, host, store, block, transaction),
     }
-    answer_behind(rt, host, store, block, command)
 }
 
 // ... one that may write to the disk.
@@ -112,22 +119,22 @@ fn answer_alone<R: Threads + Sync, H: Host>(
     host: &mut H,
     store: &mut Store,
     block: &mut Bytes,
-    command: Command,
+    request: Request,
 ) -> Result<(), Status>
-    requires { CanCome command }
-    ensures ok { OnOk result (AnswersNext ⟦<H as Disk>⟧ command store.old store.new block.old block.new host.old host.new) }
-    ensures err { IfErr result (λ status. BeginsNext ⟦<H as Disk>⟧ command status store.old block.old host.old host.new) }
+    requires { CanComeRequest request }
+    ensures ok { OnOk result (AnswersNext ⟦<H as Disk>⟧ request store.old store.new block.old block.new host.old host.new) }
+    ensures err { IfErr result (λ status. BeginsNext ⟦<H as Disk>⟧ request status store.old block.old host.old host.new) }
     ensures cause { IfErr result (λ status. IsUnanswered ⟦<H as Disk>⟧ status host.old host.new) }
     ensures beside { TakesNone ⟦<H as Disk>⟧ host.old host.new }
 {
     give_block(host, block)?;
-    if let Err(error) = store.answer(rt, host, command) {
+    if let Err(error) = store.answer(rt, host, request) {
         return Err(status_of(error));
     }
     Ok(())
 }
 
-// ... one that leaves what is stored.
+// ... a command that leaves what is stored.
 fn answer_behind<R: Threads + Sync, H: Host>(
     rt: &R,
     host: &mut H,
@@ -137,8 +144,8 @@ fn answer_behind<R: Threads + Sync, H: Host>(
 ) -> Result<(), Status>
     requires can_come { CanCome command }
     requires leaves { may_change command ≡ false }
-    ensures ok { OnOk result (AnswersNext ⟦<H as Disk>⟧ command store.old store.new block.old block.new host.old host.new) }
-    ensures err { IfErr result (λ status. BeginsNext ⟦<H as Disk>⟧ command status store.old block.old host.old host.new) }
+    ensures ok { OnOk result (AnswersNext ⟦<H as Disk>⟧ (Single command) store.old store.new block.old block.new host.old host.new) }
+    ensures err { IfErr result (λ status. BeginsNext ⟦<H as Disk>⟧ (Single command) status store.old block.old host.old host.new) }
     ensures cause { IfErr result (λ status. IsUnanswered ⟦<H as Disk>⟧ status host.old host.new) }
     ensures beside { TakesNone ⟦<H as Disk>⟧ host.old host.new }
     ensures holds { is_lookup command ≡ true → OnOk result (HoldsOn ⟦<H as Disk>⟧ store.old store.new host.old host.new) }

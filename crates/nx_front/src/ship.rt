@@ -9,8 +9,8 @@ use nx_host::{Disk, Host};
 use nx_ship::{ShipError, Start};
 use std::alloc::{AllocError, Global};
 
-// Gives groups of the store on the disk as a stream, or says that there is no such group. No input is taken, and nothing is written
-// to the disk.
+// Gives groups of the store on the disk as a stream, or says that there is no such group. No input is taken, and nothing on the
+// disk is changed.
 pub fn ship<H: Host>(alloc: Global, host: &mut H, start: Start) -> Status
     ensures { ShipsGroups ⟦<H as Disk>⟧ start result host.old host.new }
 {

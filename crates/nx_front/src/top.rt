@@ -25,12 +25,13 @@ use std::alloc::Global;
 use std::thread::Threads;
 
 /// Carries out the command line of these words, which are those after the program's own name, over
-/// the host, and answers how it ended.
+/// the host, and answers how it ended. Where a command uses a store, STORE is neither `_` nor a word that ends in `.log`; `tidy`, `plan` and
+/// `verify` use none.
 ///
 /// `STORE tidy` reads a document in PYX lines and gives its canonical text, or one line that
-/// refuses it, and nothing else. `STORE run`, where STORE isn't `_`, reads the commands of a script and gives their
-/// replies in order, over the store on the disk: whatever crash comes, the disk has the documents of the commands that
-/// were answered, or of one command more. `STORE plan K` reads a document in PYX lines and gives the lines of a plan: as few intervals
+/// refuses it, and nothing else. `STORE run` reads the requests of a script, which are commands and transactions of several, and
+/// gives their replies in order, over the store on the disk: whatever crash comes, the disk has the documents of the requests
+/// that were answered, or of one request more, and so a transaction whole or not at all. `STORE plan K` reads a document in PYX lines and gives the lines of a plan: as few intervals
 /// as there can be with parts of at most K slots, of which the root's is as light as it can be with so
 /// many, and the minima of each node's subtree; or one line that says what is wrong, or which node
 /// weighs more than K. `STORE verify K` reads a document in PYX lines, a line of one dot and the lines of a plan,
@@ -38,33 +39,33 @@ use std::thread::Threads;
 /// most K slots has fewer, by the plan's own bounds, or one line that says what is wrong. An input of
 /// 4,294,967,296 bytes or more is too much.
 ///
-/// `STORE init K [TARGET [TOLERANCE [PAGES]]]`, where STORE isn't `_`, makes a store on a disk that has no
+/// `STORE init K [TARGET [TOLERANCE [PAGES]]]` makes a store on a disk that has no
 /// pages: whatever crash comes, the disk is as it was, or has the new store, and the latter once a byte of
 /// `ok` is out. Over a disk with pages it gives the line `refused exists`, and writes nothing to the disk. It
 /// takes no input.
 ///
-/// `STORE gen SEED N`, where STORE isn't `_`, carries out the generated commands of a seed below 2^31 and a number from 1 to
+/// `STORE gen SEED N` carries out the generated commands of a seed below 2^31 and a number from 1 to
 /// 100,000 over the store on the disk, and gives four lines: how many commands there were, how many of them were refused, and
 /// how many nodes and bytes of text the document `gen` has then. Whatever crash comes, the disk has the documents after some
 /// of the commands, and after all of them once a byte is out. Where there is a document `gen` it gives the line `refused exists`,
 /// and writes nothing to the disk. It takes no input.
 ///
-/// `STORE check`, where STORE isn't `_`, gives the line `sound` where the pages of the disk stand for a state, and else `wrong PAGE RULE`, the first
+/// `STORE check` gives the line `sound` where the pages of the disk stand for a state, and else `wrong PAGE RULE`, the first
 /// rule that they break and the page to blame. It takes no input, and writes nothing to the disk.
 ///
-/// `STORE find`, where STORE isn't `_`, reads lines `find NAME STEPS`, and gives for each a line `at PATH` for each node that the steps reach in
+/// `STORE find` reads lines `find NAME STEPS`, and gives for each a line `at PATH` for each node that the steps reach in
 /// the document of that name, in document order, and a line `.`; or one line that refuses it. It writes nothing to the disk.
 ///
-/// `STORE ask WORKERS`, where STORE isn't `_`, answers the commands of a script over one snapshot of the store on the disk, by that many workers,
-/// 1 to 64, which share it. `names`, `export`, `get`, `layout` and `rules` are answered as `run` answers them; every other command is answered as a line
-/// that is no command. The replies to 1,024 commands are given at once, in their order, when there are all of them. It writes nothing to the disk.
+/// `STORE ask WORKERS` answers the requests of a script over one snapshot of the store on the disk, by that many workers,
+/// 1 to 64, which share it. `names`, `export`, `get`, `layout` and `rules` are answered as `run` answers them; every other command, and a transaction, is answered as a line
+/// that is no command. The replies to 1,024 requests are given at once, in their order, when there are all of them. It writes nothing to the disk.
 ///
-/// `STORE ship FROM`, where STORE isn't `_`, gives groups of the store as a stream: with `all` one group of all pages, with the number of
+/// `STORE ship FROM` gives groups of the store as a stream: with `all` one group of all pages, with the number of
 /// the last commit; with a number up to 18,446,744,073,709,551,615 the groups of the log from the first one with it on, and none
 /// where it is the next one. Where no group has it, and it isn't the next one, it gives the line `refused no-group FROM LAST` instead. It takes
-/// no input, and writes nothing to the disk.
+/// no input, and changes nothing on the disk.
 ///
-/// `STORE apply`, where STORE isn't `_`, reads such a stream, applies each group to the store on the disk with one commit, and gives a line
+/// `STORE apply` reads such a stream, applies each group to the store on the disk with one commit, and gives a line
 /// `ok NUMBER` for each. Over a disk without pages the first group must be a whole store; every other group must have the number behind the last
 /// one's, which is 0 behind the greatest. Whatever crash comes, the disk has the pages of the store with the groups whose lines are out laid
 /// over them, or of one group more. Behind the lines of the groups before, which stay applied, it gives `refused repeat NUMBER LAST` or

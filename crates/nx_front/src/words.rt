@@ -1,8 +1,8 @@
 // The words of a command line.
-ghost use Rattle.std.specs.Prelude.{◌≡◌, ◌≤◌, ◌∷◌, true, false, map, is_some, IfOk, IfErr, IfSome, IsSome, MatchOption};
+ghost use Rattle.std.specs.Prelude.{◌≡◌, ◌≤◌, ◌∷◌, true, false, map, is_some, option_map, IfOk, IfErr, IfSome, IsSome, MatchOption};
 ghost use Rattle.nx_pyx.specs.Field.{value_of};
 ghost use Rattle.nx_records.specs.Words.{AreSettings};
-ghost use Rattle.nx_front.specs.CommandLine.{is_store, is_named_store, is_within, is_weight_limit, has_plain_start, is_group_number, usual_settings, settings_said, start_said, command_of_two, command_of_ship, are_workers, command_of_ask, command_of_limit, command_of_three, command_of_four, command_of_init, command_line_of, command_line, IsLimited};
+ghost use Rattle.nx_front.specs.CommandLine.{is_store, is_log_name, is_named_store, named_store, uses_store, is_within, is_weight_limit, has_plain_start, is_group_number, usual_settings, settings_said, start_said, command_of_two, command_of_ship, are_workers, command_of_ask, command_of_limit, command_of_three, command_of_four, command_of_init, command_line_of, command_line, IsLimited};
 
 use nx_lists::NoMemory;
 use nx_pyx::position;
@@ -80,6 +80,34 @@ fn is_command_line(words: &[Word]) -> bool
         }
         _ => false,
     }
+}
+
+/// The word that names the store, where the words are a command line that uses one. `tidy`, `plan` and `verify`
+/// use none.
+pub fn named_store(words: &Words) -> Option<&str>
+    ensures { option_map (λ store. store.now) result ≡ named_store words.now }
+{
+    match words.as_slice() {
+        [store, command, arguments @ ..] => {
+            let line = command_by(store.as_str(), command.as_str(), arguments)?;
+            if uses_store(line) {
+                Some(store.as_str())
+            } else {
+                None
+            }
+        }
+        _ => None,
+    }
+}
+
+// Whether the command line uses the store that it names.
+fn uses_store(line: CommandLine) -> bool
+    ensures { result ≡ uses_store line }
+{
+    !matches!(
+        line,
+        CommandLine::Tidy | CommandLine::Plan(_) | CommandLine::Verify(_)
+    )
 }
 
 // The command line of a store, a command and its arguments.
@@ -326,7 +354,14 @@ fn number_within(word: &str, least: u32, most: u32) -> Option<u32>
 fn is_named_store(store: &str) -> bool
     ensures { result ≡ is_named_store store.now }
 {
-    is_store(store) && store != "_"
+    is_store(store) && store != "_" && !is_log_name(store)
+}
+
+// Whether the word ends as the name of a log does.
+fn is_log_name(word: &str) -> bool
+    ensures { result ≡ is_log_name word.now }
+{
+    word.as_bytes().ends_with(b".log")
 }
 
 // Whether the word may name a store.

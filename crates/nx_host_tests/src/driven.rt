@@ -3,7 +3,7 @@
 use crate::endless::EndlessHost;
 use crate::host::{Counts, DisklessHost};
 use nx_front::{Status, Word, Words, run};
-use nx_host::{Area, Disk, Failed, Host};
+use nx_host::{Disk, Failed, Host};
 use nx_script::{Command, Script, ScriptError};
 use nx_tree::NoMemory;
 use std::alloc::Global;
@@ -95,24 +95,4 @@ pub fn endless_next(
 
 pub fn read_in(host: &mut DisklessHost, room: &mut [u8]) -> Result<usize, Failed> {
     host.read_in(room)
-}
-
-pub fn emit(host: &mut DisklessHost, bytes: &[u8]) -> Result<(), Failed> {
-    host.emit(bytes)
-}
-
-pub fn length(host: &mut DisklessHost, area: Area) -> Result<u64, Failed> {
-    host.length(area)
-}
-
-pub fn read(host: &mut DisklessHost, area: Area, room: &mut [u8]) -> Result<usize, Failed> {
-    host.read(area, 7, room)
-}
-
-pub fn sync(host: &mut DisklessHost, area: Area) -> Result<(), Failed> {
-    host.sync(area)
-}
-
-pub fn write_some(host: &mut DisklessHost, area: Area) -> Result<(), Failed> {
-    host.write_at(area, 0, b"page")
 }

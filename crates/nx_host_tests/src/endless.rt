@@ -30,6 +30,8 @@ impl Disk for EndlessHost {
 
     ghost reads = { λ _. 0 };
 
+    ghost renewed = { λ _. None };
+
     fn length(&mut self, _area: Area) -> Result<u64, Failed> {
         Ok(0)
     }
@@ -43,6 +45,10 @@ impl Disk for EndlessHost {
     }
 
     fn sync(&mut self, _area: Area) -> Result<(), Failed> {
+        Ok(())
+    }
+
+    fn renew(&mut self, _area: Area, _at: u64) -> Result<(), Failed> {
         Ok(())
     }
 

@@ -17,7 +17,7 @@ pub struct Counts {
     pub reads: u64,
 }
 
-// The calls so far, over all six kinds, and the number of the one that is to fail: they are
+// The calls so far, over all seven kinds, and the number of the one that is to fail: they are
 // numbered from 1.
 #[derive(Drop)]
 struct Calls {
@@ -134,6 +134,8 @@ impl Disk for DisklessHost {
 
     ghost reads = { λ host. host.counts.reads };
 
+    ghost renewed = { λ _. Some [] };
+
     ghost contents_may_stay = { λ host image is. only_nothing image is };
 
     ghost told_before = { λ host t s le since is_told. told_since host.past.items host.output.items t s since };
@@ -182,6 +184,13 @@ impl Disk for DisklessHost {
             return Err(Failed);
         }
         Ok(())
+    }
+
+    fn renew(&mut self, _area: Area, _at: u64) -> Result<(), Failed> {
+        // There is no byte, so each call fails, whatever its number.
+        let _ = self.calls.next_fails();
+        self.counts.faults = self.counts.faults.saturating_add(1);
+        Err(Failed)
     }
 }
 

@@ -1,5 +1,5 @@
 // Runs that partition a document.
-use crate::driven::{check_run, host_of, status_of, words_of};
+use crate::driven::{check_run, words_of};
 use nx_front::Status;
 use nx_tree::NoMemory;
 use std::alloc::Global;
@@ -96,42 +96,5 @@ fn long_contents_weigh_little(rt: HostRuntime) -> Result<(), Fail> {
         let given = (document.as_slice(), 4_096);
         check_run(&rt, rt.alloc(), &words, given, status, output)?;
     }
-    Ok(())
-}
-
-// A document of 6,000 texts of 3 slots each.
-fn long_document(alloc: Global) -> Result<Vec<u8>, NoMemory> {
-    let mut text = Vec::from_slice(alloc, b"(a\n")?;
-    for _ in 0..6000 {
-        text.extend_from_slice(b"-123456789\n")?;
-    }
-    text.extend_from_slice(b")a\n")?;
-    Ok(text)
-}
-
-// What a run of a command on this input gives.
-fn output_of(
-    rt: &(impl Threads + Abort + Sync),
-    alloc: Global,
-    command: &str,
-    input: &[u8],
-) -> Result<Vec<u8>, NoMemory> {
-    let words = words_of(alloc, &["_", command, "10"])?;
-    let mut host = host_of(alloc, input, 65_536)?;
-    assert_eq!(rt; status_of(rt, alloc, &words, &mut host), Status::Done);
-    Ok(host.output().to_vec(alloc)?)
-}
-
-// A plan of many lines, which is given in several blocks, is certified.
-#[test]
-fn a_long_plan_is_certified(rt: HostRuntime) -> Result<(), Fail> {
-    let mut input = long_document(rt.alloc())?;
-    let plan = output_of(&rt, rt.alloc(), "plan", input.as_slice())?;
-    assert!(rt; plan.len() > 131_072);
-    input.extend_from_slice(b".\n")?;
-    input.extend_from_slice(plan.as_slice())?;
-    let verdict = output_of(&rt, rt.alloc(), "verify", input.as_slice())?;
-    // Three of the texts fill an interval. With the element stand two, or none.
-    assert_eq!(rt; verdict.as_slice(), b"certified 2001\n".as_slice());
     Ok(())
 }

@@ -1,12 +1,10 @@
 // Runs of `tidy`, words that are no command, and the hosts themselves.
 use crate::driven::{
-    check_failing, check_run, emit, endless_status, host_of, length, read, read_in, status_of,
-    sync, words_of, write_some,
+    check_failing, check_run, endless_status, host_of, read_in, status_of, words_of,
 };
 use crate::endless::EndlessHost;
-use crate::host::{Counts, DisklessHost};
 use nx_front::{Status, Words};
-use nx_host::{Area, Failed};
+use nx_host::Failed;
 use nx_tree::NoMemory;
 use std::alloc::Global;
 use std::process::Abort;
@@ -42,7 +40,7 @@ fn an_input_has_its_answer(rt: HostRuntime) -> Result<(), Fail> {
     Ok(())
 }
 
-const MISUSED: [&[&str]; 34] = [
+const MISUSED: [&[&str]; 50] = [
     &["run"],
     &["s", "run", "s"],
     &["_", "run"],
@@ -77,6 +75,22 @@ const MISUSED: [&[&str]; 34] = [
     &["s", "ship", "all", "1"],
     &["_", "apply"],
     &["s", "apply", "all"],
+    &["s", "init"],
+    &["_", "init", "16"],
+    &["s", "init", "0"],
+    &["s", "init", "257"],
+    &["s", "init", "016"],
+    &["s", "init", "16", "101"],
+    &["s", "init", "16", "50", "257"],
+    &["s", "init", "16", "50", "4", "63"],
+    &["s", "init", "16", "50", "4", "16777217"],
+    &["s", "init", "16", "50", "4", "64", "64"],
+    &["s", "gen", "0"],
+    &["_", "gen", "0", "1"],
+    &["s", "gen", "2147483648", "1"],
+    &["s", "gen", "00", "1"],
+    &["s", "gen", "0", "0"],
+    &["s", "gen", "0", "100001"],
 ];
 
 // These are the words.
@@ -129,28 +143,6 @@ const FAILING: [(&[u8], u64, Status, &[u8], usize); 5] = [
     (FAULTY, 3, Status::Refused, REFUSAL, 23),
 ];
 
-// The same of a long document, which is its own answer. Five reads, and four blocks of whole lines: each but
-// the last has 65,536 bytes and what ends its last line.
-const FAILING_LONG: [(u64, Status, usize); 4] = [
-    (3, Status::ReadFault, 0),
-    (6, Status::WriteFault, 0),
-    (8, Status::WriteFault, 131_203),
-    (10, Status::Done, 250_006),
-];
-
-// A document of 250,006 bytes, as it is written.
-fn long_document(alloc: Global) -> Result<Vec<u8>, NoMemory> {
-    let mut text = Vec::from_slice(alloc, b"(a\n")?;
-    for _ in 0..2500 {
-        // A line of 100 bytes.
-        text.push(b'-')?;
-        text.extend_from_slice(&[b'x'; 98])?;
-        text.push(b'\n')?;
-    }
-    text.extend_from_slice(b")a\n")?;
-    Ok(text)
-}
-
 // A run at which a call fails ends so, with that first part of its answer, and counts that call.
 fn check_counted(
     rt: &(impl Threads + Abort + Sync),
@@ -183,19 +175,6 @@ fn a_failing_call_ends_the_run(rt: HostRuntime) -> Result<(), Fail> {
 }
 
 #[test]
-fn a_failing_call_ends_a_long_run(rt: HostRuntime) -> Result<(), Fail> {
-    let words = words_of(rt.alloc(), &["_", "tidy"])?;
-    let text = long_document(rt.alloc())?;
-    assert_eq!(rt; text.len(), 250_006);
-    for (call, status, count) in FAILING_LONG {
-        let output = first(text.as_slice(), count);
-        let given = (text.as_slice(), 65_536, call);
-        check_counted(&rt, rt.alloc(), &words, given, status, output)?;
-    }
-    Ok(())
-}
-
-#[test]
 fn a_line_without_end_is_refused(rt: HostRuntime) -> Result<(), Fail> {
     let words = words_of(rt.alloc(), &["_", "tidy"])?;
     let mut host = EndlessHost::default();
@@ -203,68 +182,5 @@ fn a_line_without_end_is_refused(rt: HostRuntime) -> Result<(), Fail> {
     assert_eq!(rt; status, Status::Refused);
     // Seventeen blocks, and `refused pyx 1 long-line` with its LF.
     assert_eq!(rt; (host.taken, host.given), (1_114_112, 24));
-    Ok(())
-}
-
-#[test]
-fn a_host_gives_its_input_and_keeps_the_output(rt: HostRuntime) -> Result<(), Fail> {
-    let mut host = host_of(rt.alloc(), b"abcde", 3)?;
-    let mut room = [0u8; 4];
-    assert_eq!(rt; read_in(&mut host, &mut room), Ok(3));
-    assert_eq!(rt; emit(&mut host, b"one "), Ok(()));
-    assert_eq!(rt; read_in(&mut host, &mut room), Ok(2));
-    assert_eq!(rt; room, *b"dec\0");
-    assert_eq!(rt; read_in(&mut host, &mut room), Ok(0));
-    assert_eq!(rt; emit(&mut host, b"two"), Ok(()));
-    assert_eq!(rt; host.output(), b"one two".as_slice());
-    assert_eq!(rt; host.counts(), Counts::default());
-    Ok(())
-}
-
-#[test]
-fn a_host_has_no_room(rt: HostRuntime) -> Result<(), Fail> {
-    let mut host = host_of(rt.alloc(), b"", 3)?;
-    assert_eq!(rt; length(&mut host, Area::Pages), Ok(0));
-    assert_eq!(rt; read(&mut host, Area::Log, &mut [0u8; 4]), Ok(0));
-    assert_eq!(rt; sync(&mut host, Area::Log), Ok(()));
-    assert_eq!(rt; write_some(&mut host, Area::Pages), Err(Failed));
-    let expected = Counts {
-        faults: 1,
-        reads: 1,
-        ..Counts::default()
-    };
-    assert_eq!(rt; host.counts(), expected);
-    Ok(())
-}
-
-// Calls of each kind, of which the one with this number fails.
-fn check_calls(rt: &impl Abort, host: &mut DisklessHost, number: u64) {
-    let mut room = [0u8; 2];
-    assert_eq!(rt; read_in(host, &mut room).is_err(), number == 1);
-    assert_eq!(rt; emit(host, b"line").is_err(), number == 2);
-    assert_eq!(rt; length(host, Area::Log).is_err(), number == 3);
-    assert_eq!(rt; read(host, Area::Log, &mut room).is_err(), number == 4);
-    assert_eq!(rt; sync(host, Area::Pages).is_err(), number == 5);
-    assert!(rt; write_some(host, Area::Pages).is_err());
-}
-
-// What was counted and given by them.
-fn check_left(rt: &impl Abort, host: &DisklessHost, number: u64) {
-    assert_eq!(rt; host.output().is_empty(), number == 2);
-    let counts = host.counts();
-    assert_eq!(rt; counts.in_faults, u64::from(number == 1));
-    assert_eq!(rt; counts.out_faults, u64::from(number == 2));
-    assert_eq!(rt; counts.faults, 1 + u64::from(number > 2 && number < 6));
-}
-
-// Each of the six calls fails in its turn, and does nothing then.
-#[test]
-fn a_host_fails_at_a_call(rt: HostRuntime) -> Result<(), Fail> {
-    for number in 1..7u64 {
-        let mut host = host_of(rt.alloc(), b"ab", 2)?;
-        host.fail_call(number);
-        check_calls(&rt, &mut host, number);
-        check_left(&rt, &host, number);
-    }
     Ok(())
 }

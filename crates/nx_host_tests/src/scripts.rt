@@ -90,22 +90,6 @@ const WRONG_PATHS: [&[u8]; 17] = [
 // and for a document's name.
 const WRONG_NAMES: [&[u8]; 8] = [b"", b"-d", b"-", b"d ", b"a\tb", b"\x7f", b"a\x80", b"\x00"];
 
-// What is in front of so many bytes, and the length of the command in words.
-const LENGTHS: [(&[u8], usize, usize); 10] = [
-    (b"drop ", 255, 260),
-    (b"drop ", 256, 3),
-    (b"export ", 256, 3),
-    (b"get d /", 4_000_000, 3),
-    (b"retext d / ", 1_048_576, 1_048_586),
-    // A fault.
-    (b"retext d / ", 1_048_577, 21),
-    (b"retext d / \\n\\x", 1_048_574, 21),
-    (b"insert d / -", 1_048_577, 21),
-    // A line of 4,194,304 bytes, and one of a byte more.
-    (b"retext d / ", 4_194_293, 21),
-    (b"retext d / ", 4_194_294, 3),
-];
-
 // Scripts, and their commands: lines that begin a document, whatever its name is, and others; lines of
 // a document that don't end it; and scripts whose last line no LF ends.
 const SCRIPTS: [(&[u8], &[u8]); 28] = [
@@ -138,56 +122,6 @@ const SCRIPTS: [(&[u8], &[u8]); 28] = [
     (b"load a\n(a\n)a\n..", b"bad\n"),
     (b"load a\n(a\n)a\n.\nnames", b"load a\n(a\n)a\nnames\n"),
 ];
-
-const SCRIPT: [&[u8]; 42] = [
-    b"names",
-    b"drop a",
-    b"export a",
-    b"insert a /0 -x",
-    b"delete a /0",
-    b"retext a /0 y",
-    b"get a /0",
-    b"",
-    b".",
-    b"load b",
-    b"(a",
-    b"-.",
-    b")a",
-    b".",
-    // Its lines are no commands, whatever its name is.
-    b"load b c",
-    b"names",
-    b".",
-    b"load",
-    b".",
-    // A line that begins with a dot doesn't end it.
-    b"load d",
-    b"(a",
-    b".b",
-    b"names",
-    b".",
-    b"loads",
-    b"load e\r",
-    b"(a\r",
-    b"-hi\r",
-    b")a\r",
-    b".\r",
-    b"load f",
-    b"(a",
-    b")b",
-    b"..",
-    b"names",
-    b".",
-    b"load g",
-    b".",
-    b"names\r",
-    b"load h",
-    b"(a",
-    b"names",
-];
-
-const COMMANDS: &[u8] =
-    b"names\ndrop a\nexport a\ninsert a 0: -x\ndelete a 0\nretext a 0: y\nget a 0\nbad\nbad\nload b\n(a\n-.\n)a\nbad\nbad\nload d: 2 bad-code\nbad\nload e\n(a\n-hi\n)a\nload f: 2 bad-nesting\nload g: 0 empty\nnames\nbad\n";
 
 fn push_place(text: &mut Bytes, word: &[u8], name: &Bytes, path: &Path) -> Result<(), NoMemory> {
     text.extend_from_slice(word)?;
@@ -370,22 +304,6 @@ fn wrong_lines(rt: HostRuntime) -> Result<(), Fail> {
     Ok(())
 }
 
-// The length of the command in words of so many digits behind the prefix.
-fn length_of(alloc: Global, prefix: &[u8], count: usize) -> Result<usize, ScriptError> {
-    let line = Bytes::from_vec(Vec::from_elem(alloc, b'9', count)?);
-    let text = commands(alloc, prefix, line.as_slice(), 65_536)?;
-    Ok(text.len())
-}
-
-#[test]
-fn lengths(rt: HostRuntime) -> Result<(), Fail> {
-    for (prefix, count, expected) in LENGTHS {
-        let found = length_of(rt.alloc(), prefix, count)?;
-        assert_eq!(rt; found, expected.saturating_add(1));
-    }
-    Ok(())
-}
-
 #[test]
 fn scripts(rt: HostRuntime) -> Result<(), Fail> {
     for (script, expected) in SCRIPTS {
@@ -393,56 +311,6 @@ fn scripts(rt: HostRuntime) -> Result<(), Fail> {
             let text = commands_of(rt.alloc(), script, piece)?;
             assert_eq!(rt; text.as_slice(), expected, "{script:?}");
         }
-    }
-    Ok(())
-}
-
-// The lines of the long script.
-fn long_script(alloc: Global) -> Result<Bytes, NoMemory> {
-    let mut script = Bytes::new(alloc);
-    for line in SCRIPT {
-        script.extend_from_slice(line)?;
-        script.push(b'\n')?;
-    }
-    Ok(script)
-}
-
-#[test]
-fn long_scripts(rt: HostRuntime) -> Result<(), Fail> {
-    let script = long_script(rt.alloc())?;
-    for piece in [1, 2, 3, 7, 1000usize] {
-        let text = commands_of(rt.alloc(), script.as_slice(), piece)?;
-        assert_eq!(rt; text.as_slice(), COMMANDS);
-    }
-    Ok(())
-}
-
-// Four commands, of which the end of the input cuts the last one off.
-const ENDING: &[u8] = b"names\n\ndrop e\nload f\n(a";
-
-// Whether the script has ended, with all of it taken.
-fn is_at_end(script: &mut Script, host: &mut DisklessHost) -> Result<bool, ScriptError> {
-    let is_none = next(script, host)?.is_none();
-    Ok(is_none && script.taken() == 23)
-}
-
-// It ends behind them, each time that it is asked.
-fn check_end(rt: &impl Abort, alloc: Global, piece: usize) -> Result<(), Fail> {
-    let mut host = host_of(alloc, ENDING, piece)?;
-    let mut script = Script::new(alloc)?;
-    for _ in 0..4 {
-        assert!(rt; next(&mut script, &mut host)?.is_some());
-    }
-    for _ in 0..2 {
-        assert!(rt; is_at_end(&mut script, &mut host)?);
-    }
-    Ok(())
-}
-
-#[test]
-fn a_script_ends(rt: HostRuntime) -> Result<(), Fail> {
-    for piece in 1..20usize {
-        check_end(&rt, rt.alloc(), piece)?;
     }
     Ok(())
 }

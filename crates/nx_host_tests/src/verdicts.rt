@@ -1,5 +1,5 @@
 // Runs that check a partitioning of a document.
-use crate::driven::{check_failing, check_run, words_of};
+use crate::driven::{check_run, words_of};
 use nx_front::Status;
 use nx_tree::NoMemory;
 use std::alloc::Global;
@@ -102,43 +102,6 @@ fn a_plan_has_its_verdict(rt: HostRuntime) -> Result<(), Fail> {
     check(&rt, rt.alloc(), &texts, Status::Done, certified)?;
     for (texts, line) in REFUSED {
         check(&rt, rt.alloc(), texts, Status::Refused, line)?;
-    }
-    Ok(())
-}
-
-const FAULTY: &[&str] = &["(a\n)b\n)a\n.\n", PARTS];
-
-// Texts, the call that fails, how the run ends, and its output. Three pieces of at most 64 bytes are the whole
-// input, and the fourth read finds its end.
-const FAILING: [(&[&str], u64, Status, &str); 6] = [
-    (WHOLE, 1, Status::ReadFault, ""),
-    (WHOLE, 4, Status::ReadFault, ""),
-    (WHOLE, 5, Status::WriteFault, ""),
-    (WHOLE, 6, Status::Done, "certified 3\n"),
-    (FAULTY, 2, Status::WriteFault, ""),
-    (FAULTY, 3, Status::Refused, "refused pyx 2 bad-nesting\n"),
-];
-
-fn check_call(
-    rt: &(impl Threads + Abort + Sync),
-    alloc: Global,
-    texts: &[&str],
-    call: u64,
-    status: Status,
-    output: &str,
-) -> Result<(), NoMemory> {
-    let words = words_of(alloc, &["_", "verify", "4"])?;
-    let input = input_of(alloc, texts)?;
-    let given = (input.as_slice(), 64, call);
-    check_failing(rt, alloc, &words, given, status, output.as_bytes())?;
-    Ok(())
-}
-
-// A fault of the document is told before the end, and no verdict is given where reading fails.
-#[test]
-fn a_failing_call_leaves_no_verdict(rt: HostRuntime) -> Result<(), Fail> {
-    for (texts, call, status, output) in FAILING {
-        check_call(&rt, rt.alloc(), texts, call, status, output)?;
     }
     Ok(())
 }

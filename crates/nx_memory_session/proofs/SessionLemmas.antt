@@ -8,7 +8,7 @@ use Rattle.nx_host.specs.Host.{Appends}
 use Rattle.nx_host.specs.Still.{IsSettled}
 use Rattle.nx_replay.specs.Log.{groups_behind, groups, logged, pages_of, replay}
 use Rattle.nx_holdings.specs.declared.header.Settings.{Settings}
-use Rattle.nx_script.specs.Commands.{AreCommands}
+use Rattle.nx_script.specs.Requests.{AreRequests}
 use Rattle.nx_state.specs.State.{State, new_state}
 use Rattle.nx_state.specs.Stands.{Recovers}
 use Rattle.nx_memory.specs.declared.quiet.QuietHost.{QuietHost}
@@ -22,7 +22,7 @@ use Rattle.nx_filters.proofs.OutcomeLemmas.{whole_is}
 use Rattle.nx_front.specs.declared.words.CommandLine.TheVariants.{Run}
 use Rattle.nx_front.specs.CommandLine.{command_line}
 use Rattle.nx_front.specs.Init.{made_line, HasNoPage, Initializes, IsUntroubled, CompletesInit}
-use Rattle.nx_front.specs.Serving.{Turn, IsRun, state_after, commands_of, texts_of, Serves, IsCalm, CompletesServing, EndsWell}
+use Rattle.nx_front.specs.Serving.{Turn, IsRun, state_after, requests_of, texts_of, Serves, IsCalm, CompletesServing, EndsWell}
 use Rattle.nx_front.proofs.InitLemmas.{init_together, holds_nothing}
 use Rattle.nx_memory_session.specs.Session.{IsUntouched, HasNewStore, EndsMaking, AnswersScript, EndsSession}
 
@@ -54,10 +54,10 @@ Made settings was now may image Done = ((i : Image) → may i → i ≡ image) �
 Made settings was now may image NoMemory = Unit {0}
 Made settings was now may image _ = ⊥
 
--- the commands of the input are answered
+-- the requests of the input are answered
 abbrev pub Answered : State → List ℕ → (was now : Option (List ℕ)) → (Image → Type 0) → Status → Type 0
 Answered state script was now may Done =
-    (turns : List Turn) × IsRun state turns × AreCommands script (commands_of turns) × Appends (texts_of turns) was now × ((i : Image) → may i → Recovers i (Some (state_after state turns)))
+    (turns : List Turn) × IsRun state turns × AreRequests script (requests_of turns) × Appends (texts_of turns) was now × ((i : Image) → may i → Recovers i (Some (state_after state turns)))
 Answered state script was now may NoMemory = Unit {0}
 Answered state script was now may _ = ⊥
 
@@ -100,7 +100,7 @@ module _ {D : Type 0} (d : Ghosts D) (a b : D) where
       let from = serves.from was state calm.settled calm.disk_told recovers in
       let (whole, are, gave) = from.ends in
       let all : script ≡ from.taken = whole_is script from.taken (d.beside a).input (d.beside b).input calm.input_is calm.input_told whole in
-      (from.turns, from.run, subst (λ (l : List ℕ). AreCommands l (commands_of from.turns)) (sym all) are, gave, from.last refl)
+      (from.turns, from.run, subst (λ (l : List ℕ). AreRequests l (requests_of from.turns)) (sym all) are, gave, from.last refl)
 
   pub answers : (status : Status) (was : Image) (state : State) (script : List ℕ) → Serves d status a b → CompletesServing d status a b → IsCalm d was script a b → Recovers was (Some state) →
       Answered state script (d.beside a).output (d.beside b).output (d.may_leave b) status
@@ -160,7 +160,7 @@ pub answered_in : (settings : Settings) (script : List ℕ) (status : Status) (o
 answered_in settings script Done old new told still made (turns, run, are, gave, images) = record {
   turns = turns;
   run = run;
-  commands = are;
+  requests = are;
   output = added (texts_of turns) (output_of old.memory) (output_of new.memory) old.full new.full told still gave ∙ ap (λ (l : List ℕ). l ++ texts_of turns) made;
   images = images;
 }

@@ -2,7 +2,7 @@
 use Rattle.std.specs.Prelude.{◌≡◌, ℕ, List, [], ◌++◌, false, Some}
 use Rattle.nx_host.specs.Disk.{Image, no_bytes}
 use Rattle.nx_records.specs.Words.{Settings}
-use Rattle.nx_script.specs.Commands.{AreCommands}
+use Rattle.nx_script.specs.Requests.{AreRequests}
 use Rattle.nx_state.specs.State.{new_state}
 use Rattle.nx_state.specs.Stands.{Recovers}
 use Rattle.nx_memory.specs.declared.quiet.QuietHost.{QuietHost}
@@ -12,7 +12,7 @@ use Rattle.nx_memory.specs.QuietHost.{QuietMayLeave}
 use Rattle.nx_filters.specs.declared.status.Status.{Status}
 use Rattle.nx_filters.specs.declared.status.Status.TheVariants.{Done, NoMemory}
 use Rattle.nx_front.specs.Init.{made_line}
-use Rattle.nx_front.specs.Serving.{Turn, IsRun, state_after, commands_of, texts_of}
+use Rattle.nx_front.specs.Serving.{Turn, IsRun, state_after, requests_of, texts_of}
 
 -- The host has empty areas, nothing was given, and this is its input.
 pub record IsUntouched (script : List ℕ) (host : QuietHost) : Type 0 where
@@ -35,12 +35,12 @@ EndsMaking settings script Done host = HasNewStore settings script host
 EndsMaking settings script NoMemory host = Unit {0}
 EndsMaking settings script _ host = ⊥
 
--- Every command of the script is answered: there is one run from the new state over all of them, `ok` and its replies are out, and each image that a crash may
+-- Every request of the script is answered: there is one run from the new state over all of them, `ok` and its replies are out, and each image that a crash may
 -- leave is that of its last state.
 pub record AnswersScript (settings : Settings) (script : List ℕ) (host : QuietHost) : Type 0 where
   pub turns : List Turn
   pub run : IsRun (new_state settings) turns
-  pub commands : AreCommands script (commands_of turns)
+  pub requests : AreRequests script (requests_of turns)
   pub output : output_of host.memory ≡ made_line ++ texts_of turns
   pub images : (i : Image) → QuietMayLeave host i → Recovers i (Some (state_after (new_state settings) turns))
 

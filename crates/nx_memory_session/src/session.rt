@@ -25,7 +25,7 @@ pub struct Session {
 ///
 /// Where the words are such a command line, the script has fewer than 4,294,967,296 bytes, and the host's
 /// room, so many bytes for each area, the output and the history, isn't used up (`QuietHost::is_full`), the
-/// session ends with `Done` or, where memory ran out, with `NoMemory`. With `Done` each command of the script
+/// session ends with `Done` or, where memory ran out, with `NoMemory`. With `Done` each request of the script
 /// is answered, from the new store on, each one from the state that the one before left; and whatever crash
 /// comes then, the disk has the last state.
 ///

@@ -15,7 +15,10 @@ use Rattle.nx_host.proofs.OutputLemmas.{appends_nothing}
 use Rattle.nx_host.proofs.InputLemmas.{block_behind}
 use Rattle.nx_replay.specs.Log.{Pages, Entry, Group, HasMark, replay}
 use Rattle.nx_replay.proofs.GroupLemmas.{zero_or_more}
-use Rattle.nx_wal.specs.Wal.{NoLogCreated}
+use Rattle.nx_wal.specs.Wal.{NoLogCreated, Follows, IsInStep}
+use Rattle.nx_wal.specs.Lost.{LosesNone}
+use Rattle.nx_wal.specs.declared.wal.Wal.{Wal}
+use Rattle.nx_holdings.specs.declared.header.Header.{Header}
 use Rattle.nx_wal.specs.declared.error.WalError.{WalError}
 use Rattle.nx_wal.specs.declared.error.WalError.TheVariants as wal_error
 use Rattle.nx_ship.specs.Faults.{error_of_input, error_of_log}
@@ -23,12 +26,15 @@ use Rattle.nx_ship.specs.Stream.{IsGood, IsPartOfGroup, Begins, stream_length}
 use Rattle.nx_ship.specs.declared.reader.Reader.{Reader}
 use Rattle.nx_ship.specs.Reading.{HoldsPart, unit_of}
 use Rattle.nx_ship.specs.Sent.{IsFault, IsHeadless, IsBarred}
+use Rattle.nx_ship.specs.Next.{IsHeadedBy, AreNone}
+use Rattle.nx_ship.specs.Lost.{LacksNone}
 use Rattle.nx_ship.specs.Applying.{groups_in, IsApplyCause, EndsApplying, AppliesTo, IsUnapplied, ReceivesStream}
 use Rattle.nx_ship.specs.Receiving.{HasApplied, Receives, ReceivesSome, HasOpened, EndsAt, EndsStream, EndsReceiving, TakesInput}
 use Rattle.nx_ship.specs.declared.receiver.Receiver.{Receiver}
 use Rattle.nx_ship.specs.declared.error.ShipError.{ShipError}
 use Rattle.nx_ship.specs.declared.error.ShipError.TheVariants as error
 use Rattle.nx_ship.proofs.StreamLemmas.{begins_length}
+use Rattle.nx_ship.proofs.EntryLemmas.{one_head, none_headed}
 use Rattle.nx_ship.proofs.SendLemmas.{rose_since}
 use Rattle.nx_ship.proofs.ApplyingLemmas.{applied_on}
 use Rattle.nx_ship.proofs.TakingLemmas.{ended, unfed}
@@ -59,7 +65,7 @@ no_mark_there pages (bytes, there, begins) none = let a : pages 0 ≡ Some bytes
 
 pub headless_unapplied : (was : Image) (e : ShipError) → HasMark (replay was) → IsHeadless (replay was) e → IsUnapplied was (Err e)
 headless_unapplied was error.NotAStore mark why = absurd (no_mark_there (replay was) mark why)
-headless_unapplied was (error.Damaged page) mark why = (mark, why)
+headless_unapplied was (error.Damaged page) mark why = (mark, inl why)
 headless_unapplied was error.Disk mark why = tt
 headless_unapplied was error.Memory mark why = tt
 headless_unapplied was error.Write mark why = absurd why
@@ -70,6 +76,20 @@ headless_unapplied was (error.Repeat n l) mark why = absurd why
 headless_unapplied was (error.Gap n l) mark why = absurd why
 headless_unapplied was (error.Base n) mark why = absurd why
 headless_unapplied was (error.Stream offset) mark why = absurd why
+
+-- over a disk that was asked alone the log is followed on
+pub step_after : {D : Type 0} {d : Ghosts D} {a b : D} {was : Image} (old new : Wal) → IsStill d a b → new ≡ old → IsInStep d old a was → IsInStep d new b was
+step_after {was = was} old new still same step = record {
+  settled = settled_still still step.settled;
+  follows = subst (λ (w : Wal). Follows w was.log) (sym same) step.follows;
+}
+
+-- where none is lost by one header, none is by any, since there is one; and none is where there is no page
+pub lost_none : (was : Image) (header : Header) → IsHeadedBy (replay was) header → LosesNone header.pages was → LacksNone was
+lost_none was header here none other headed = subst (λ (h : Header). LosesNone h.pages was) (one_head here headed) none
+
+pub none_lost : (was : Image) → AreNone (replay was) → LacksNone was
+none_lost was none header headed = absurd (none_headed (replay was) header (none 0) headed)
 
 -- no reason but these
 pub cut_unapplied : (was : Image) (e : ShipError) → IsBarred e → IsUnapplied was (Err e)
@@ -257,6 +277,7 @@ module _ {D : Type 0} {d : Ghosts D} where
         let ended = ends (replay was) a (opened_receives still settled open_here) in
         inl (record {
           opened = open_here.open_for;
+          whole = open_here.whole;
           taken = ended.taken;
           takes = block_behind [] ended.taken (d.beside a).input (d.beside b).input (d.beside c).input (takes_kept (d.beside a).input (d.beside b).input (still.beside_stays).input) ended.takes;
           few = ended.few;

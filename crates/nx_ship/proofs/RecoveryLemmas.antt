@@ -96,6 +96,7 @@ states_are_whole = record {
       let b : pages 0 ≡ Some wrong.bytes = wrong.there in
       let same : wrong.bytes ≡ header_bytes holds.0 = cc in
       wrong.wrong holds.0 (record { are = same; range = (holds.1).range });
+  lost = λ image state page recovers has. lost (replay image) page ((all_pages image state has.header recovers has.headed).there page (has.lost).low) (has.lost).lacks;
   all = all_pages;
   page = λ image state header page recovers headed missing. lost (replay image) page ((all_pages image state header recovers headed).there page missing.low) missing.none;
   dense = denses;

@@ -10,7 +10,7 @@ use Rattle.nx_replay.specs.Log.{Pages, Group, groups, end_of, over, entry_pages,
 use Rattle.nx_replay.specs.Laws.{over_all}
 use Rattle.nx_ship.specs.Stream.{group_in, IsGood, IsPartOfGroup, Begins, stream_length}
 use Rattle.nx_ship.specs.Next.{number_following, IsAtNumber, AreNone, IsOpenFor, IsBase, ComeInTurn, StayDense}
-use Rattle.nx_ship.specs.Sending.{HasWrongHeader}
+use Rattle.nx_ship.specs.Lost.{LacksNone, ShowsNoState}
 use Rattle.nx_ship.specs.declared.error.ShipError.{ShipError}
 use Rattle.nx_ship.specs.declared.error.ShipError.TheVariants as error
 
@@ -126,18 +126,19 @@ pub record AppliesTo {D : Type 0} (d : Ghosts D) (start : Pages) (taken : List �
   pub why : EndsApplying start taken groups rest (d.beside new).input result
   pub shows : StayDense start groups → IsSome (d.contents new) → ShowsEnd d start groups result old new
 
--- The store has a header, or there is no page; and groups were applied to it.
+-- The store has a header and lost no page, or there is no page; and groups were applied to it.
 pub record AppliesFrom {D : Type 0} (d : Ghosts D) (was : Image) (result : Result (Unit {0}) ShipError) (old new : D) : Type 0 where
   pub opened : IsOpenFor (replay was)
+  pub whole : LacksNone was
   pub taken : List ℕ
   pub takes : Takes taken (d.beside old).input (d.beside new).input
   pub few : length taken ≤ most_input
   pub applies : AppliesTo d (replay was) taken result old new
 
--- why nothing was taken: there are pages, and no header; or page 0, which begins as one, is none; or a call of the disk failed, or there was no memory
+-- why nothing was taken: there are pages, and no header; or page 0, which begins as one, is none, or pages are lost; or a call of the disk failed, or there was no memory
 abbrev pub IsUnapplied : Image → Result (Unit {0}) ShipError → Type 0
 IsUnapplied was (Err error.NotAStore) = (HasMark (replay was) → ⊥) × ((p : ℕ) × IsSome (replay was p))
-IsUnapplied was (Err (error.Damaged page)) = HasMark (replay was) × HasWrongHeader (replay was) page
+IsUnapplied was (Err (error.Damaged page)) = HasMark (replay was) × ShowsNoState page was
 IsUnapplied was (Err error.Disk) = Unit {0}
 IsUnapplied was (Err error.Memory) = Unit {0}
 IsUnapplied was _ = ⊥
@@ -158,7 +159,7 @@ IsApplyCause d (Err error.Read) old new =
 IsApplyCause d (Err error.TooMuch) old new = (taken : List ℕ) × (length taken ≡ most_input) × Takes taken (d.beside old).input (d.beside new).input
 IsApplyCause d (Err error.Memory) old new = Unit {0}
 IsApplyCause d (Err error.NotAStore) old new = (was : Image) → IsSettled d old was → (HasMark (replay was) → ⊥) × ((p : ℕ) × IsSome (replay was p))
-IsApplyCause d (Err (error.Damaged page)) old new = (was : Image) → IsSettled d old was → HasMark (replay was) × HasWrongHeader (replay was) page
+IsApplyCause d (Err (error.Damaged page)) old new = (was : Image) → IsSettled d old was → HasMark (replay was) × ShowsNoState page was
 IsApplyCause d (Err (error.Repeat number last)) old new = Unit {0}
 IsApplyCause d (Err (error.Gap number last)) old new = Unit {0}
 IsApplyCause d (Err (error.Base number)) old new = Unit {0}

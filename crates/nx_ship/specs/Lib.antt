@@ -4,6 +4,7 @@ pub mod Stream
 pub mod Reading
 pub mod Shipped
 pub mod Next
+pub mod Lost
 pub mod Sending
 pub mod Sent
 pub mod Applying

@@ -13,6 +13,7 @@ use Rattle.nx_wal.specs.declared.wal.Wal.{Wal}
 use Rattle.nx_ship.specs.Stream.{stream_length, BeginsWithHeader, IsStream}
 use Rattle.nx_ship.specs.Reading.{HasFed, AreUnderWay, least_behind}
 use Rattle.nx_ship.specs.Next.{number_following, IsAtNumber, AreNone, IsBase, IsOpenFor, ComeInTurn, StayDense, MayComeTo}
+use Rattle.nx_ship.specs.Lost.{LacksNone}
 use Rattle.nx_ship.specs.Applying.{applied_text, groups_in, log_before, log_after, HasLogged, ShowsApplied, AppliesTo, TakesAtMost}
 use Rattle.nx_ship.specs.declared.receiver.Receiver.{Receiver}
 use Rattle.nx_ship.specs.declared.error.ShipError.{ShipError}
@@ -75,6 +76,7 @@ pub record HasOpened {D : Type 0} (d : Ghosts D) (was : Image) (r : Receiver) (n
   pub step : IsInStep d r.wal now was
   pub last : IsLast r.last (replay was)
   pub open_for : IsOpenFor (replay was)
+  pub whole : LacksNone was
 
 -- Groups were applied, and these pages of the one under way are there. What is said of the disk holds where the pages stay dense and the contents are told.
 pub record IsApplyingBy {D : Type 0} (d : Ghosts D) (start : Pages) (first : D) (r : Receiver) (groups : List Group) (es : List Entry) (Ready : Type 0) (now : D) : Type 0 where

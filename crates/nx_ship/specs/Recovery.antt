@@ -9,6 +9,7 @@ use Rattle.nx_state.specs.Stands.{Recovers, Stands}
 use Rattle.nx_ship.specs.Shipped.{Applies, sent_to, all_pages_group, AreAllBelow}
 use Rattle.nx_ship.specs.Next.{IsHeadedBy, IsOpenFor, StayDense}
 use Rattle.nx_ship.specs.Sending.{IsMissing, HasWrongHeader}
+use Rattle.nx_ship.specs.Lost.{IsFirstLacked}
 
 -- Where the receiver stood for what the sender did before a group of its log, and the next groups are applied, it recovers to whatever the sender did when its log had these groups, and not yet the later ones.
 abbrev pub RecoversAlong : Type 0
@@ -31,6 +32,7 @@ pub record StatesAreWhole : Type 0 where
   pub open_for : (image : Image) (state : Option State) → Recovers image state → IsOpenFor (replay image)
   pub mark : (image : Image) (state : State) → Recovers image (Some state) → HasMark (replay image)
   pub header : (image : Image) (state : State) (page : ℕ) → Recovers image (Some state) → HasWrongHeader (replay image) page → ⊥
+  pub lost : (image : Image) (state : State) (page : ℕ) → Recovers image (Some state) → IsFirstLacked page image → ⊥
   pub all : (image : Image) (state : State) (header : Header) → Recovers image (Some state) → IsHeadedBy (replay image) header → AreAllBelow (replay image) header.pages
   pub page : (image : Image) (state : State) (header : Header) (page : ℕ) → Recovers image (Some state) → IsHeadedBy (replay image) header → IsMissing (replay image) header page → ⊥
   pub dense : (image : Image) (state : Option State) → Recovers image state → IsDense (replay image)

@@ -17,9 +17,10 @@ use std::alloc::Global;
 /// 16,777,216, the numbers of its pages don't rise or aren't below 16,777,216, its first page isn't page 0 and a header with its number,
 /// or bytes are missing. `Base` exactly where there is no page and a good first group isn't whole. `Repeat` and `Gap` exactly where a good group
 /// isn't the next one, and its number is at most that of the last one, or above it. All groups before stay applied then, and their lines
-/// are out. `NotAStore` exactly where the disk has pages, and page 0 is missing or doesn't begin as that of a store; `Damaged` only where it does
-/// and is no header; nothing is taken then. `TooMuch` exactly where as many bytes were taken as may be; with it and with `Read` each
-/// group that was there was applied or refused before. `Disk`, `Read` and `Write` only where that count of faults rose; `Memory`.
+/// are out. `NotAStore` exactly where the disk has pages, and page 0 is missing or doesn't begin as that of a store. `Damaged` only where it does,
+/// and the pages stand for no state: with page 0, which is no header; or with the first page below the header's number that no group of the log
+/// has, where the pages area has none. Nothing is taken then. `TooMuch` exactly where as many bytes were taken as may be; with it and with `Read`
+/// each group that was there was applied or refused before. `Disk`, `Read` and `Write` only where that count of faults rose; `Memory`.
 pub fn apply<H: Host>(alloc: Global, host: &mut H) -> Result<(), ShipError>
     ensures { ReceivesStream ⟦<H as Disk>⟧ result host.old host.new }
 {

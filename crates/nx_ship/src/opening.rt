@@ -1,9 +1,11 @@
 // What a store says of its last group.
-ghost use Rattle.std.specs.Prelude.{◌≡◌, [], IfSome, IfOk, IfErr, OnOk};
+ghost use Rattle.std.specs.Prelude.{◌≡◌, [], Err, IfSome, IfOk, IfErr, OnOk};
 ghost use Rattle.nx_host.specs.Disk.{Image};
 ghost use Rattle.nx_host.specs.Still.{IsStill, IsSettled};
 ghost use Rattle.nx_replay.specs.Log.{HasMark, replay};
 ghost use Rattle.nx_wal.specs.Wal.{IsInStep, pending};
+ghost use Rattle.nx_ship.specs.Applying.{IsUnapplied};
+ghost use Rattle.nx_ship.specs.Lost.{LacksNone};
 ghost use Rattle.nx_ship.specs.Next.{IsHeadedBy, number_following};
 ghost use Rattle.nx_ship.specs.Sent.{FindsStore, IsHeadless, IsNoStoreOpened, IsBarred, IsFault};
 
@@ -21,7 +23,7 @@ pub(crate) fn following(number: u64) -> u64
     if number == u64::MAX { 0 } else { number + 1 }
 }
 
-// The log of the store on the disk. Nothing is written.
+// The log of the store on the disk. Its last gate is renewed, also where it is read alone: a group that is given away has to stay.
 //
 // Errors: `NotAStore` exactly where page 0 is missing or doesn't begin as that of a store; `Disk`, only where `faults` rose; `Memory`.
 pub(crate) fn open_store<D: Disk>(alloc: Global, disk: &mut D) -> Result<Wal, ShipError>
@@ -39,7 +41,7 @@ pub(crate) fn open_store<D: Disk>(alloc: Global, disk: &mut D) -> Result<Wal, Sh
     }
 }
 
-// As `open_store`, but none where the disk has no store.
+// As `open_store`, to commit to it too, and none where the disk has no store.
 pub(crate) fn find_store<D: Disk>(alloc: Global, disk: &mut D) -> Result<Option<Wal>, ShipError>
     ensures still { IsStill D.Disk disk.old disk.new }
     ensures ok { IfOk result (λ found. (was : Image) → IsSettled D.Disk disk.old was → FindsStore D.Disk was found disk.new) }
@@ -75,5 +77,26 @@ pub(crate) fn read_head<D: Disk>(disk: &mut D, wal: &mut Wal) -> Result<Header, 
     match read_header(&bytes) {
         Some(header) => Ok(header),
         None => Err(ShipError::Damaged { page: 0 }),
+    }
+}
+
+// The header of the store, to commit to it too. Where the pages area has no page, a group of the log has to have each page below the
+// header's number: a pages area that went isn't taken for one that was never written.
+//
+// Errors: as `read_head`; `Damaged` also with the first page below the header's number that no group of the log has, where the pages
+// area has none.
+pub(crate) fn read_whole_head<D: Disk>(disk: &mut D, wal: &mut Wal) -> Result<Header, ShipError>
+    ensures still { IsStill D.Disk disk.old disk.new }
+    ensures stays { OnOk result (wal.new ≡ wal.old) }
+    ensures ok { IfOk result (λ header. (was : Image) → IsInStep D.Disk wal.old disk.old was → pending wal.old ≡ [] → IsHeadedBy (replay was) header) }
+    ensures whole { OnOk result ((was : Image) → IsInStep D.Disk wal.old disk.old was → pending wal.old ≡ [] → LacksNone was) }
+    ensures err { IfErr result (λ e. (was : Image) → IsInStep D.Disk wal.old disk.old was → pending wal.old ≡ [] → HasMark (replay was) → IsUnapplied was (Err e)) }
+    ensures cause { IfErr result (λ e. IsFault D.Disk e disk.old disk.new) }
+{
+    let header = read_head(disk, wal)?;
+    match wal.first_lost(disk, header.pages) {
+        Ok(None) => Ok(header),
+        Ok(Some(page)) => Err(ShipError::Damaged { page }),
+        Err(error) => Err(error_of(error)),
     }
 }

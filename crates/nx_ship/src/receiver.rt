@@ -11,7 +11,7 @@ ghost use Rattle.nx_ship.specs.Applying.{line_for};
 
 use crate::ShipError;
 use crate::error::error_of;
-use crate::opening::{find_store, following, read_head};
+use crate::opening::{find_store, following, read_whole_head};
 use crate::reader::{Fed, Reader};
 use nx_holdings::{Header, read_header};
 use nx_host::{Disk, Host};
@@ -40,14 +40,14 @@ impl Receiver {
     ghost use Rattle.nx_holdings.specs.declared.header.Header.{Header};
     ghost use Rattle.nx_ship.specs.Next.{IsHeadedBy, IsBase};
     ghost use Rattle.nx_ship.specs.Reading.{page_of};
-    ghost use Rattle.nx_ship.specs.Sent.{IsFault, IsCutShort, IsHeadless};
+    ghost use Rattle.nx_ship.specs.Sent.{IsFault, IsCutShort};
     ghost use Rattle.nx_ship.specs.Applying.{IsUnapplied};
     ghost use Rattle.nx_ship.specs.Receiving.{IsTakeFault, LeavesInput, LeavesStream, HasOpened, is_next_number, ReceivesMore, StopsReceiving, TakesSome, KeepsPage, AppliesNone, BeginsGroup, AppliesLast, StopsAtLast, IsGroupKept, IsBaseless, IsBased, CommitsGroup, StopsCommitting, RefusesNumber, EndsStream, IsStreamError};
 
     // A receiver over the disk, at the beginning of a stream. Nothing is written.
     //
-    // Errors: `NotAStore` exactly where there are pages, and page 0 doesn't begin as that of a store; `Damaged`, where it does, and is no header;
-    // `Disk`, only where `faults` rose; `Memory`.
+    // Errors: `NotAStore` exactly where there are pages, and page 0 doesn't begin as that of a store; `Damaged`, where it does, and is no header, or
+    // pages are lost; `Disk`, only where `faults` rose; `Memory`.
     pub(crate) fn open<D: Disk>(alloc: Global, disk: &mut D) -> Result<Receiver, ShipError>
         ensures still { IsStill D.Disk disk.old disk.new }
         ensures ok { IfOk result (λ r. (was : Image) → IsSettled D.Disk disk.old was → HasOpened D.Disk was r disk.new) }
@@ -66,11 +66,11 @@ impl Receiver {
         requires { pending wal ≡ [] }
         ensures still { IsStill D.Disk disk.old disk.new }
         ensures ok { IfOk result (λ r. (was : Image) → IsInStep D.Disk wal disk.old was → HasOpened D.Disk was r disk.new) }
-        ensures err { IfErr result (λ e. (was : Image) → IsInStep D.Disk wal disk.old was → IsHeadless (replay was) e) }
+        ensures err { IfErr result (λ e. (was : Image) → IsInStep D.Disk wal disk.old was → HasMark (replay was) → IsUnapplied was (Err e)) }
         ensures cause { IfErr result (λ e. IsFault D.Disk e disk.old disk.new) }
     {
         let mut wal = wal;
-        let header = read_head(disk, &mut wal)?;
+        let header = read_whole_head(disk, &mut wal)?;
         Ok(Receiver {
             alloc,
             wal,

@@ -1,10 +1,10 @@
 // Groups that are shipped and applied, by example.
 use crate::hosts::{answers, applied, made, no_store, shipped};
-use nx_front::Status;
 use nx_memory::Image;
 use nx_ship::{ShipError, Start};
 use nx_tree::{Bytes, NoMemory};
 use std::alloc::Global;
+use std::process::Abort;
 use std::test::Fail;
 use std::thread::Threads;
 
@@ -19,134 +19,194 @@ pub fn sender(rt: &(impl Threads + Sync), alloc: Global) -> Result<Image, NoMemo
 
 // The stream of its groups.
 pub fn stream(rt: &(impl Threads + Sync), alloc: Global) -> Result<Bytes, NoMemory> {
-    let (_, bytes) = shipped(alloc, &sender(rt, alloc)?, Start::Number(0))?;
+    let store = sender(rt, alloc)?;
+    let (_, bytes) = shipped(alloc, &store, Start::Number(0))?;
     Ok(bytes)
 }
 
-#[test]
-fn a_log_is_shipped(rt: HostRuntime) -> Result<(), Fail> {
-    let alloc = rt.alloc();
-    let stream = stream(&rt, alloc)?;
-    let (result, out, image) = applied(alloc, &no_store(alloc), stream.as_slice(), 65_536)?;
-    assert_eq!(rt; result, Ok(()));
-    assert_eq!(rt; out.as_slice(), b"ok 0\nok 1\n".as_slice());
-    let (status, names, _) = answers(&rt, alloc, &image, b"names\n")?;
-    assert_eq!(rt; status, Status::Done);
-    assert_eq!(rt; names.as_slice(), b"doc e 4\n.\n".as_slice());
+fn check_end(rt: &impl Abort, found: Result<(), ShipError>, want: Result<(), ShipError>) {
+    assert_eq!(rt; found, want);
+}
+
+fn check_out(rt: &impl Abort, found: &[u8], want: &[u8]) {
+    assert_eq!(rt; found, want);
+}
+
+// Applying the stream to these areas ends so, with that out; what is left.
+fn check_applied(
+    rt: &impl Abort,
+    alloc: Global,
+    image: &Image,
+    stream: &[u8],
+    ended: Result<(), ShipError>,
+    out: &[u8],
+) -> Result<Image, NoMemory> {
+    let (result, found, left) = applied(alloc, image, stream, 1_000)?;
+    check_end(rt, result, ended);
+    check_out(rt, found.as_slice(), out);
+    Ok(left)
+}
+
+// Shipping the areas ends so, with nothing out.
+fn check_shipped(
+    rt: &impl Abort,
+    alloc: Global,
+    image: &Image,
+    start: Start,
+    ended: Result<(), ShipError>,
+) -> Result<(), NoMemory> {
+    let (result, out) = shipped(alloc, image, start)?;
+    check_end(rt, result, ended);
+    check_out(rt, out.as_slice(), b"");
     Ok(())
 }
 
-#[test]
-fn a_group_comes_again(rt: HostRuntime) -> Result<(), Fail> {
-    let alloc = rt.alloc();
-    let stream = stream(&rt, alloc)?;
-    let (_, _, image) = applied(alloc, &no_store(alloc), stream.as_slice(), 65_536)?;
-    let (result, out, _) = applied(alloc, &image, stream.as_slice(), 65_536)?;
-    assert_eq!(rt; result, Err(ShipError::Repeat { number: 0, last: 1 }));
-    assert_eq!(rt; out.len(), 0);
+// The store answers a script so.
+fn check_answer(
+    rt: &(impl Threads + Abort + Sync),
+    alloc: Global,
+    image: &Image,
+    script: &[u8],
+    text: &[u8],
+) -> Result<(), NoMemory> {
+    let (_, found, _) = answers(rt, alloc, image, script)?;
+    check_out(rt, found.as_slice(), text);
     Ok(())
+}
+
+// The store of both groups, to which they come again.
+fn check_again(
+    rt: &(impl Threads + Abort + Sync),
+    alloc: Global,
+    image: &Image,
+    stream: &[u8],
+) -> Result<(), NoMemory> {
+    check_answer(rt, alloc, image, b"names\n", b"doc e 4\n.\n")?;
+    let repeat = Err(ShipError::Repeat { number: 0, last: 1 });
+    check_applied(rt, alloc, image, stream, repeat, b"")?;
+    Ok(())
+}
+
+fn check_followed(
+    rt: &(impl Threads + Abort + Sync),
+    alloc: Global,
+    stream: &[u8],
+) -> Result<(), NoMemory> {
+    let none = no_store(alloc);
+    let image = check_applied(rt, alloc, &none, stream, Ok(()), b"ok 0\nok 1\n")?;
+    check_again(rt, alloc, &image, stream)
+}
+
+#[test]
+fn a_log_is_shipped_and_comes_again(rt: HostRuntime) -> Result<(), Fail> {
+    let stream = stream(&rt, rt.alloc())?;
+    check_followed(&rt, rt.alloc(), stream.as_slice())?;
+    Ok(())
+}
+
+fn check_numbers(rt: &impl Abort, alloc: Global, image: &Image) -> Result<(), NoMemory> {
+    check_shipped(rt, alloc, image, Start::Number(2), Ok(()))?;
+    let none = Err(ShipError::NoGroup { from: 3, last: 1 });
+    check_shipped(rt, alloc, image, Start::Number(3), none)
 }
 
 #[test]
 fn the_next_number_ships_nothing(rt: HostRuntime) -> Result<(), Fail> {
-    let alloc = rt.alloc();
-    let image = sender(&rt, alloc)?;
-    let (result, out) = shipped(alloc, &image, Start::Number(2))?;
-    assert_eq!(rt; result, Ok(()));
-    assert_eq!(rt; out.len(), 0);
-    let (result, out) = shipped(alloc, &image, Start::Number(3))?;
-    assert_eq!(rt; result, Err(ShipError::NoGroup { from: 3, last: 1 }));
-    assert_eq!(rt; out.len(), 0);
+    let image = sender(&rt, rt.alloc())?;
+    check_numbers(&rt, rt.alloc(), &image)?;
     Ok(())
+}
+
+// The sender with an empty log.
+fn emptied(rt: &(impl Threads + Sync), alloc: Global) -> Result<Image, NoMemory> {
+    let store = sender(rt, alloc)?;
+    let (_, _, image) = answers(rt, alloc, &store, b"checkpoint\n")?;
+    Ok(image)
+}
+
+// A group of all pages is a store.
+fn check_pages(
+    rt: &(impl Threads + Abort + Sync),
+    alloc: Global,
+    stream: &[u8],
+) -> Result<(), NoMemory> {
+    let none = no_store(alloc);
+    let left = check_applied(rt, alloc, &none, stream, Ok(()), b"ok 1\n")?;
+    check_answer(rt, alloc, &left, b"export e\n", b"(a\nAx 1\n-hi\n)a\n.\n")
+}
+
+fn check_all(
+    rt: &(impl Threads + Abort + Sync),
+    alloc: Global,
+    image: &Image,
+) -> Result<(), NoMemory> {
+    let none = Err(ShipError::NoGroup { from: 1, last: 1 });
+    check_shipped(rt, alloc, image, Start::Number(1), none)?;
+    let (result, stream) = shipped(alloc, image, Start::All)?;
+    check_end(rt, result, Ok(()));
+    check_pages(rt, alloc, stream.as_slice())
 }
 
 #[test]
 fn all_pages_are_shipped(rt: HostRuntime) -> Result<(), Fail> {
-    let alloc = rt.alloc();
-    let (_, _, image) = answers(&rt, alloc, &sender(&rt, alloc)?, b"checkpoint\n")?;
-    let (result, _) = shipped(alloc, &image, Start::Number(1))?;
-    assert_eq!(rt; result, Err(ShipError::NoGroup { from: 1, last: 1 }));
-    let (result, stream) = shipped(alloc, &image, Start::All)?;
-    assert_eq!(rt; result, Ok(()));
-    let (result, out, left) = applied(alloc, &no_store(alloc), stream.as_slice(), 1_000)?;
-    assert_eq!(rt; result, Ok(()));
-    assert_eq!(rt; out.as_slice(), b"ok 1\n".as_slice());
-    let (_, text, _) = answers(&rt, alloc, &left, b"export e\n")?;
-    assert_eq!(rt; text.as_slice(), b"(a\nAx 1\n-hi\n)a\n.\n".as_slice());
+    let image = emptied(&rt, rt.alloc())?;
+    check_all(&rt, rt.alloc(), &image)?;
+    Ok(())
+}
+
+fn check_short(rt: &impl Abort, alloc: Global, stream: &[u8]) -> Result<(), NoMemory> {
+    let short = &stream[..stream.len().saturating_sub(1)];
+    let broken = Err(ShipError::Stream { offset: 16_404 });
+    check_applied(rt, alloc, &no_store(alloc), short, broken, b"ok 0\n")?;
     Ok(())
 }
 
 #[test]
 fn a_last_byte_is_missing(rt: HostRuntime) -> Result<(), Fail> {
-    let alloc = rt.alloc();
-    let stream = stream(&rt, alloc)?;
-    let bytes = stream.as_slice();
-    let short = &bytes[..bytes.len().saturating_sub(1)];
-    let (result, out, _) = applied(alloc, &no_store(alloc), short, 777)?;
-    assert_eq!(rt; result, Err(ShipError::Stream { offset: 16_404 }));
-    assert_eq!(rt; out.as_slice(), b"ok 0\n".as_slice());
+    let stream = stream(&rt, rt.alloc())?;
+    check_short(&rt, rt.alloc(), stream.as_slice())?;
+    Ok(())
+}
+
+// The sender with two groups more.
+fn grown(rt: &(impl Threads + Sync), alloc: Global) -> Result<Image, NoMemory> {
+    let store = sender(rt, alloc)?;
+    let edits = b"retext e /0/1 bye\nretext e /0/1 hello\n";
+    let (_, _, image) = answers(rt, alloc, &store, edits)?;
+    Ok(image)
+}
+
+// The last of them alone.
+fn later(rt: &(impl Threads + Sync), alloc: Global) -> Result<Bytes, NoMemory> {
+    let store = grown(rt, alloc)?;
+    let (_, bytes) = shipped(alloc, &store, Start::Number(3))?;
+    Ok(bytes)
+}
+
+fn check_gap(
+    rt: &(impl Threads + Abort + Sync),
+    alloc: Global,
+    stream: &[u8],
+) -> Result<(), NoMemory> {
+    let none = no_store(alloc);
+    let receiver = check_applied(rt, alloc, &none, stream, Ok(()), b"ok 0\nok 1\n")?;
+    check_refused(rt, alloc, &receiver)
+}
+
+fn check_refused(
+    rt: &(impl Threads + Abort + Sync),
+    alloc: Global,
+    receiver: &Image,
+) -> Result<(), NoMemory> {
+    let later = later(rt, alloc)?;
+    let gap = Err(ShipError::Gap { number: 3, last: 1 });
+    check_applied(rt, alloc, receiver, later.as_slice(), gap, b"")?;
     Ok(())
 }
 
 #[test]
 fn a_group_is_missing(rt: HostRuntime) -> Result<(), Fail> {
-    let alloc = rt.alloc();
-    let stream = stream(&rt, alloc)?;
-    let (_, _, receiver) = applied(alloc, &no_store(alloc), stream.as_slice(), 65_536)?;
-    let (_, _, grown) = answers(
-        &rt,
-        alloc,
-        &sender(&rt, alloc)?,
-        b"retext e /0/1 bye\nretext e /0/1 hello\n",
-    )?;
-    let (_, later) = shipped(alloc, &grown, Start::Number(3))?;
-    let (result, out, _) = applied(alloc, &receiver, later.as_slice(), 65_536)?;
-    assert_eq!(rt; result, Err(ShipError::Gap { number: 3, last: 1 }));
-    assert_eq!(rt; out.len(), 0);
-    Ok(())
-}
-
-#[test]
-fn a_first_group_is_no_store(rt: HostRuntime) -> Result<(), Fail> {
-    let alloc = rt.alloc();
-    let (_, _, grown) = answers(&rt, alloc, &sender(&rt, alloc)?, b"retext e /0/1 bye\n")?;
-    let (_, last) = shipped(alloc, &grown, Start::Number(2))?;
-    let (result, out, _) = applied(alloc, &no_store(alloc), last.as_slice(), 65_536)?;
-    assert_eq!(rt; result, Err(ShipError::Base { number: 2 }));
-    assert_eq!(rt; out.len(), 0);
-    Ok(())
-}
-
-// A load of a document whose group has more pages than are read at once.
-fn large_load(alloc: Global) -> Result<Bytes, NoMemory> {
-    let mut bytes = Bytes::from_slice(alloc, b"load e\n(a\n")?;
-    for count in 0..700u32 {
-        bytes.extend_from_slice(b"(abcdefghijklmnopqrstuvwxyz\n-")?;
-        bytes.extend_from_slice(&[120u8; 88])?;
-        bytes.extend_from_slice(b"\n)abcdefghijklmnopqrstuvwxyz\n")?;
-    }
-    bytes.extend_from_slice(b")a\n.\n")?;
-    Ok(bytes)
-}
-
-// The stream of such a group, and of the one before it.
-fn large_stream(rt: &(impl Threads + Sync), alloc: Global) -> Result<Bytes, NoMemory> {
-    let load = large_load(alloc)?;
-    let (_, _, image) = answers(rt, alloc, &made(rt, alloc)?, load.as_slice())?;
-    let (_, bytes) = shipped(alloc, &image, Start::Number(0))?;
-    Ok(bytes)
-}
-
-#[test]
-fn a_large_group_is_shipped_on(rt: HostRuntime) -> Result<(), Fail> {
-    let alloc = rt.alloc();
-    let stream = large_stream(&rt, alloc)?;
-    assert!(rt; stream.len() > 24 + 8_196 * 9);
-    let (result, out, image) = applied(alloc, &no_store(alloc), stream.as_slice(), 10_000)?;
-    assert_eq!(rt; result, Ok(()));
-    assert_eq!(rt; out.as_slice(), b"ok 0\nok 1\n".as_slice());
-    let (result, again) = shipped(alloc, &image, Start::Number(0))?;
-    assert_eq!(rt; result, Ok(()));
-    assert!(rt; again.as_slice() == stream.as_slice());
+    let stream = stream(&rt, rt.alloc())?;
+    check_gap(&rt, rt.alloc(), stream.as_slice())?;
     Ok(())
 }

@@ -2,8 +2,8 @@
 use crate::hosts::{CHOICES, answers, host_with, no_store};
 use crate::rows::stream;
 use nx_front::Status;
-use nx_memory::{Choice, Image, MemoryHost};
-use nx_ship::{ShipError, apply};
+use nx_memory::{Image, MemoryHost};
+use nx_ship::apply;
 use nx_tree::NoMemory;
 use std::alloc::Global;
 use std::process::Abort;
@@ -25,6 +25,10 @@ fn groups_in(rt: &(impl Threads + Sync), alloc: Global, image: &Image) -> Result
     Ok(2)
 }
 
+fn check_groups(rt: &impl Abort, groups: usize, lines: usize) {
+    assert!(rt; groups == lines || groups == lines.saturating_add(1));
+}
+
 // With so many lines out each image has as many groups, or one more.
 fn check_images(
     rt: &(impl Threads + Abort + Sync),
@@ -33,55 +37,31 @@ fn check_images(
 ) -> Result<(), NoMemory> {
     let lines = host.output().iter().filter(|byte| **byte == b'\n').count();
     for choice in CHOICES {
-        let groups = groups_in(rt, alloc, &host.image(choice)?)?;
-        assert!(rt;
-            groups == lines || groups == lines.saturating_add(1),
-            "{choice:?} {lines} {groups}"
-        );
+        let image = host.image(choice)?;
+        let groups = groups_in(rt, alloc, &image)?;
+        check_groups(rt, groups, lines);
     }
     Ok(())
+}
+
+// Applying that is stopped after so many calls.
+fn check_stop(
+    rt: &(impl Threads + Abort + Sync),
+    alloc: Global,
+    stream: &[u8],
+    calls: u64,
+) -> Result<(), NoMemory> {
+    let mut host = host_with(alloc, &no_store(alloc), stream, 10_000)?;
+    host.stop_after(calls);
+    let _result = apply(alloc, &mut host);
+    check_images(rt, alloc, &host)
 }
 
 #[test]
 fn applying_stops_after_each_call(rt: HostRuntime) -> Result<(), Fail> {
-    let alloc = rt.alloc();
-    let stream = stream(&rt, alloc)?;
+    let stream = stream(&rt, rt.alloc())?;
     for calls in 0..CALLS {
-        let mut host = host_with(alloc, &no_store(alloc), stream.as_slice(), 10_000)?;
-        host.stop_after(calls);
-        let _result = apply(alloc, &mut host);
-        check_images(&rt, alloc, &host)?;
+        check_stop(&rt, rt.alloc(), stream.as_slice(), calls)?;
     }
-    Ok(())
-}
-
-#[test]
-fn each_call_fails(rt: HostRuntime) -> Result<(), Fail> {
-    let alloc = rt.alloc();
-    let stream = stream(&rt, alloc)?;
-    let mut failed = 0u64;
-    for number in 1..CALLS {
-        let mut host = host_with(alloc, &no_store(alloc), stream.as_slice(), 10_000)?;
-        host.fail_calls(&[number])?;
-        match apply(alloc, &mut host) {
-            Ok(()) => {}
-            Err(ShipError::Disk) | Err(ShipError::Read) | Err(ShipError::Write) => {
-                failed = failed.saturating_add(1);
-            }
-            Err(_) => panic!(rt; "another error"),
-        }
-        check_images(&rt, alloc, &host)?;
-    }
-    assert!(rt; failed > 20);
-    Ok(())
-}
-
-#[test]
-fn a_whole_stream_is_in(rt: HostRuntime) -> Result<(), Fail> {
-    let alloc = rt.alloc();
-    let stream = stream(&rt, alloc)?;
-    let mut host = host_with(alloc, &no_store(alloc), stream.as_slice(), 1)?;
-    assert_eq!(rt; apply(alloc, &mut host), Ok(()));
-    assert_eq!(rt; groups_in(&rt, alloc, &host.image(Choice::Lost)?)?, 2);
     Ok(())
 }

@@ -1,6 +1,6 @@
 // Hosts with areas, runs over them, and what a crash leaves. None promises anything, since a test that knows much is proved
 // slowly.
-ghost use Rattle.std.specs.Prelude.{◌<◌, ◌≤◌, ◌^◌};
+ghost use Rattle.std.specs.Prelude.{◌<◌, ◌^◌};
 
 use nx_front::{Status, Word, Words, run};
 use nx_memory::{Choice, Image, MemoryHost};
@@ -49,19 +49,6 @@ pub fn host_with(
 {
     let copy = copy_of(alloc, image)?;
     MemoryHost::new(alloc, copy, Bytes::from_slice(alloc, input)?, piece, ROOM)
-}
-
-/// A host with the areas of this image, this input and so much room.
-pub fn host_in(
-    alloc: Global,
-    image: &Image,
-    input: &[u8],
-    room: u64,
-) -> Result<MemoryHost, NoMemory>
-    requires { room ≤ 2 ^ 32 }
-{
-    let copy = copy_of(alloc, image)?;
-    MemoryHost::new(alloc, copy, Bytes::from_slice(alloc, input)?, 65_536, room)
 }
 
 /// How a run over the host ends.

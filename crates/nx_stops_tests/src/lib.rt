@@ -5,8 +5,6 @@
 #[cfg(test)]
 mod hosts;
 #[cfg(test)]
-mod long;
-#[cfg(test)]
 mod memory;
 #[cfg(test)]
 mod rows;

@@ -21,7 +21,7 @@ pub struct Story {
     pub left: &'static [&'static [u8]],
 }
 
-/// A store is made, a document comes, is asked, edited and dropped, and comes again.
+/// A store is made, a document comes, is asked, edited, by a transaction too, and dropped, and comes again.
 pub const SHORT: Story = Story {
     sessions: &[
         Session {
@@ -43,6 +43,16 @@ pub const SHORT: Story = Story {
                 (b"get f /\n", b"error no-document\n", 3),
                 (b"names\n", b"doc e 4\n.\n", 3),
                 (b"export e\n", b"(a\nAx 1\n-bye\n)a\n.\n", 3),
+                (
+                    b"begin\ninsert e /0/2 (b\nretext e /0/1 on\ncommit\n",
+                    b"ok\nok\n.\n",
+                    6,
+                ),
+                (
+                    b"begin\ndrop e\ndrop f\ncommit\n",
+                    b"error at 2 no-document\n",
+                    6,
+                ),
                 (b"drop e\n", b"ok\n", 1),
                 (b"names\n", b".\n", 1),
                 (b"checkpoint\n", b"ok\n", 1),
@@ -70,6 +80,7 @@ pub const SHORT: Story = Story {
         b"doc e 4\n.\n(a\nAx 1\n-bye\n)a\n.\n.\nok 2 1\n(a\n)a\n.\nok\n(a\nAx 1\n-bye\n)a\n.\n",
         b"doc e 4\n.\n(a\nAx 1\n-hi\n)a\n.\nrule a #text cluster\n.\nok 2 1\n(a\n)a\n.\nok\n(a\nAx 1\n-hi\n)a\n.\n",
         b"doc e 3\n.\n(a\n-hi\n)a\n.\nrule a #text cluster\n.\nok 2 1\n(a\n)a\n.\nok\n(a\n-hi\n)a\n.\n",
+        b"doc e 5\n.\n(a\nAx 1\n-on\n(b\n)b\n)a\n.\n.\nok 2 1\n(a\n)a\n.\nok\n(a\nAx 1\n-on\n(b\n)b\n)a\n.\n",
     ],
 };
 

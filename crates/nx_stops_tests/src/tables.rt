@@ -226,37 +226,24 @@ fn cases(
 // A store is made and used by two sessions.
 #[test]
 fn each_call_fails_once(rt: HostRuntime) -> Result<(), Fail> {
-    assert_eq!(rt; cases(&rt, rt.alloc(), SHORT, How::Once)?, 118);
+    assert_eq!(rt; cases(&rt, rt.alloc(), SHORT, How::Once)?, 138);
     Ok(())
 }
 
 #[test]
 fn the_host_stops_at_each_call(rt: HostRuntime) -> Result<(), Fail> {
-    assert_eq!(rt; cases(&rt, rt.alloc(), SHORT, How::Stop)?, 118);
+    assert_eq!(rt; cases(&rt, rt.alloc(), SHORT, How::Stop)?, 138);
     Ok(())
 }
 
 #[test]
 fn each_emit_fails(rt: HostRuntime) -> Result<(), Fail> {
-    assert_eq!(rt; cases(&rt, rt.alloc(), SHORT, How::Emit)?, 17);
-    Ok(())
-}
-
-// With a split, contents in lists, rules and drops.
-#[test]
-fn each_call_of_much_fails_once(rt: HostRuntime) -> Result<(), Fail> {
-    assert_eq!(rt; cases(&rt, rt.alloc(), LONG, How::Once)?, 164);
+    assert_eq!(rt; cases(&rt, rt.alloc(), SHORT, How::Emit)?, 19);
     Ok(())
 }
 
 #[test]
 fn the_host_stops_at_each_call_of_much(rt: HostRuntime) -> Result<(), Fail> {
-    assert_eq!(rt; cases(&rt, rt.alloc(), LONG, How::Stop)?, 164);
-    Ok(())
-}
-
-#[test]
-fn each_emit_of_much_fails(rt: HostRuntime) -> Result<(), Fail> {
-    assert_eq!(rt; cases(&rt, rt.alloc(), LONG, How::Emit)?, 16);
+    assert_eq!(rt; cases(&rt, rt.alloc(), LONG, How::Stop)?, 168);
     Ok(())
 }

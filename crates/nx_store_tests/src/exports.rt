@@ -4,6 +4,7 @@ use crate::reads::wide_store;
 use crate::stores::{HEAVY, command_of, host_of, new_store, open, stored};
 use nx_lists::NoMemory;
 use nx_memory::{Image, MemoryHost};
+use nx_script::Request;
 use nx_store::{EngineError, Store};
 use nx_tree::Bytes;
 use std::alloc::Global;
@@ -27,7 +28,7 @@ fn answer(
     host: &mut MemoryHost,
 ) -> Result<Result<(), EngineError>, Fail> {
     let command = command_of(alloc, b"export w\n")?;
-    Ok(store.answer(rt, host, command))
+    Ok(store.answer(rt, host, Request::Single(command)))
 }
 
 // ... whose host fails behind so many calls.
@@ -47,17 +48,6 @@ fn export_within(
         reads: host.counts().reads.wrapping_sub(before),
         out: host.output().len(),
     })
-}
-
-// The root's record and the two chain pages of its proxies are read, and then its lines are given. The first giving is refused.
-#[test]
-fn a_refused_first_giving_comes_behind_one_record(rt: HostRuntime) -> Result<(), Fail> {
-    let image = wide_store(&rt, rt.alloc())?;
-    let export = export_within(&rt, rt.alloc(), image, 3)?;
-    assert!(rt; export.answer == Err(EngineError::Write));
-    assert!(rt; export.reads == 3, "{}", export.reads);
-    assert!(rt; export.out == 0);
-    Ok(())
 }
 
 // Where it isn't refused, the lines are out before the second record is read, which fails.

@@ -1,9 +1,9 @@
 // Generated commands over stores.
-use crate::stores::{CHOICES, LIGHT, empty_host, left, new_store, status_of, words_of};
+use crate::stores::{CHOICES, LIGHT, left, new_store, status_of, words_of};
 use nx_engine::Plain;
 use nx_front::Status;
 use nx_gen::Gen;
-use nx_memory::{Choice, Counts, Image, MemoryHost};
+use nx_memory::{Choice, Image, MemoryHost};
 use nx_script::{Command, Reply};
 use nx_tree::{Bytes, NoMemory};
 use std::alloc::Global;
@@ -108,44 +108,5 @@ fn plain_nodes(plain: &mut Plain) -> Result<u32, NoMemory> {
 fn plain_trees_come_to_the_same(rt: HostRuntime) -> Result<(), Fail> {
     let summary = plain_summary(rt.alloc())?;
     assert_eq!(rt; summary.as_str(), MANY);
-    Ok(())
-}
-
-const MISUSED: [&[&str]; 10] = [
-    &["s", "gen"],
-    &["s", "gen", "0"],
-    &["s", "gen", "0", "1", "2"],
-    &["_", "gen", "0", "1"],
-    &["-s", "gen", "0", "1"],
-    &["s", "gen", "2147483648", "1"],
-    &["s", "gen", "00", "1"],
-    &["s", "gen", "0", "0"],
-    &["s", "gen", "0", "100001"],
-    &["s", "gen", "-1", "1"],
-];
-
-#[test]
-fn other_words_are_misuse(rt: HostRuntime) -> Result<(), Fail> {
-    for texts in MISUSED {
-        check_misuse(&rt, rt.alloc(), texts)?;
-    }
-    Ok(())
-}
-
-fn check_misuse(
-    rt: &(impl Threads + Abort + Sync),
-    alloc: Global,
-    texts: &[&str],
-) -> Result<(), NoMemory> {
-    let words = words_of(alloc, texts)?;
-    let mut host = empty_host(alloc)?;
-    // A call would fail, and be counted.
-    host.stop_after(0);
-    assert_eq!(rt;
-        status_of(rt, alloc, &words, &mut host),
-        Status::Usage,
-        "{texts:?}"
-    );
-    assert_eq!(rt; host.counts(), Counts::default());
     Ok(())
 }

@@ -1,7 +1,7 @@
 // Stores that are made.
 use crate::stores::{CHOICES, empty_host, host_of, left, settings_of, status_of, words_of};
 use nx_front::{Status, Words};
-use nx_memory::{Choice, Counts, MemoryHost};
+use nx_memory::{Choice, MemoryHost};
 use nx_records::Settings;
 use nx_tree::NoMemory;
 use std::alloc::Global;
@@ -106,49 +106,6 @@ fn a_store_that_is_there_is_left(rt: HostRuntime) -> Result<(), Fail> {
     check_refused(&rt, rt.alloc(), &mut again)?;
     for choice in CHOICES {
         check_same(&rt, &again, &host, choice)?;
-    }
-    Ok(())
-}
-
-const MISUSED: [&[&str]; 16] = [
-    &["s", "init"],
-    &["_", "init", "16"],
-    &["", "init", "16"],
-    &["-s", "init", "16"],
-    &["s", "init", ""],
-    &["s", "init", "0"],
-    &["s", "init", "257"],
-    &["s", "init", "016"],
-    &["s", "init", "16", "101"],
-    &["s", "init", "16", "050"],
-    &["s", "init", "16", "50", "257"],
-    &["s", "init", "16", "50", "-4"],
-    &["s", "init", "16", "50", "4", "63"],
-    &["s", "init", "16", "50", "4", "16777217"],
-    &["s", "init", "16", "50", "4", ""],
-    &["s", "init", "16", "50", "4", "64", "64"],
-];
-
-fn check_misuse(
-    rt: &(impl Threads + Abort + Sync),
-    alloc: Global,
-    texts: &[&str],
-) -> Result<(), NoMemory> {
-    let words = words_of(alloc, texts)?;
-    let mut host = empty_host(alloc)?;
-    // A call would fail, and be counted.
-    host.stop_after(0);
-    let status = status_of(rt, alloc, &words, &mut host);
-    assert_eq!(rt; status, Status::Usage, "{texts:?}");
-    assert!(rt; host.output().is_empty());
-    assert_eq!(rt; host.counts(), Counts::default());
-    Ok(())
-}
-
-#[test]
-fn other_words_are_misuse(rt: HostRuntime) -> Result<(), Fail> {
-    for texts in MISUSED {
-        check_misuse(&rt, rt.alloc(), texts)?;
     }
     Ok(())
 }

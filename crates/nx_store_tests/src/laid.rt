@@ -1,8 +1,10 @@
 // Stores that are laid down byte by byte, one of format 1 among them.
-use crate::damage::PAGE;
 use nx_memory::Image;
 use nx_tree::{Bytes, NoMemory};
 use std::alloc::Global;
+
+// How large a page is.
+const PAGE: usize = 8_192;
 
 // A page: bytes at its beginning, and a letter that stands so often behind them.
 #[derive(Clone, Copy, Debug)]
@@ -41,52 +43,6 @@ const OLD: [LaidPage; 4] = [
     },
 ];
 
-// A store with K 16 and a document `t`: three texts of 8,185, of 8,185 and of 1,025 letters in an element `r`, each of
-// which stands in a list.
-const FAR: [LaidPage; 8] = [
-    LaidPage {
-        bytes: b"NATIXST1\0\x02\0\x10\0\x32\0\x04\x01\0\0\0\0\0\0\x08\0\0\0\0\0\0\0\0\0\0\0\0\0\0\0\0\0\0\0\x01\0\0\0\0\0\0\0\x15",
-        letter: b'x',
-        letters: 0,
-    },
-    LaidPage {
-        bytes: b"\x02\0\0\x15\0\0\0\0\0\0\0\x01\0\x01t\0\0\0\x02\0\0\0\0\0\x05\0\0\0\0",
-        letter: b'x',
-        letters: 0,
-    },
-    // One record: the root from offset 32 on, the element, and the texts from the offsets 56, 72 and 88 on.
-    LaidPage {
-        bytes: b"\x01\0\0\x01\0\0\0\0\0\x10\0\x58\0\0\0\0\x01\0\0\x01\0\0\0\x05\0\0\0\0\0\0\0\0\x01\0\0\0\0\0\0\x01\x02\0\0\x01\0\0\0\x03r\0\0\0\0\0\0\0\x04\x01\0\0\0\x08\0\0\0\0\0\x03\0\0\x1f\xf9\x04\x01\0\0\0\x08\0\0\0\0\0\x05\0\0\x1f\xf9\x04\x01\0\0\0\x08\0\0\0\0\0\x07\0\0\x04\x01",
-        letter: b'x',
-        letters: 0,
-    },
-    LaidPage {
-        bytes: b"\x02\0\x1f\xf8\0\0\0\x04",
-        letter: b'x',
-        letters: 8_184,
-    },
-    LaidPage {
-        bytes: b"\x02\0\0\x01\0\0\0\0",
-        letter: b'x',
-        letters: 1,
-    },
-    LaidPage {
-        bytes: b"\x02\0\x1f\xf8\0\0\0\x06",
-        letter: b'y',
-        letters: 8_184,
-    },
-    LaidPage {
-        bytes: b"\x02\0\0\x01\0\0\0\0",
-        letter: b'y',
-        letters: 1,
-    },
-    LaidPage {
-        bytes: b"\x02\0\x04\x01\0\0\0\0",
-        letter: b'z',
-        letters: 1_025,
-    },
-];
-
 fn push_page(alloc: Global, pages: &mut Vec<u8>, page: LaidPage) -> Result<(), NoMemory> {
     let letters = Vec::from_elem(alloc, page.letter, page.letters)?;
     let rest = PAGE
@@ -113,9 +69,4 @@ fn laid(alloc: Global, laid: &[LaidPage]) -> Result<Image, NoMemory> {
 /// A store of format 1, whose documents `t` and `u` have texts of 2,040 and of 1,500 letters in their records.
 pub fn old_store(alloc: Global) -> Result<Image, NoMemory> {
     laid(alloc, &OLD)
-}
-
-/// A store whose document `t` has texts in the pages 3 and 4, 5 and 6, and 7; its record is in page 2.
-pub fn far_store(alloc: Global) -> Result<Image, NoMemory> {
-    laid(alloc, &FAR)
 }

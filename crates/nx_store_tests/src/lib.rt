@@ -3,21 +3,13 @@
 #![tactic(auto)]
 
 #[cfg(test)]
-mod chains;
-#[cfg(test)]
-mod damage;
-#[cfg(test)]
 mod documents;
-#[cfg(test)]
-mod drawn;
 #[cfg(test)]
 mod exports;
 #[cfg(test)]
 mod generated;
 #[cfg(test)]
 mod init;
-#[cfg(test)]
-mod intervals;
 #[cfg(test)]
 mod laid;
 #[cfg(test)]
@@ -35,6 +27,4 @@ mod stops;
 #[cfg(test)]
 mod stores;
 #[cfg(test)]
-mod trials;
-#[cfg(test)]
-mod twins;
+mod transactions;

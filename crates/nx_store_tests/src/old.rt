@@ -1,5 +1,4 @@
 // A store of format 1, which is read as it is, and is of format 2 once it is changed.
-use crate::chains::place_of;
 use crate::documents::spelled;
 use crate::laid::old_store;
 use crate::stores::{answers, format_of, stored};
@@ -189,20 +188,5 @@ fn a_commit_writes_the_new_format(rt: HostRuntime) -> Result<(), Fail> {
     assert_eq!(rt; format_of(rt.alloc(), looked)?, 1);
     let changed = edited(&rt, rt.alloc(), b"retext t /0/0 hi\n")?;
     assert_eq!(rt; format_of(rt.alloc(), changed)?, 2);
-    Ok(())
-}
-
-// Whether a list of the image is named as that of a text.
-fn has_list(image: &Image) -> bool {
-    place_of(image.pages.as_slice(), b"\x04\x01\0\0\0\x08\0\0").is_some()
-}
-
-// A long text goes to a list once its record is written again, and not before.
-#[test]
-fn long_texts_go_to_lists(rt: HostRuntime) -> Result<(), Fail> {
-    let beside = edited(&rt, rt.alloc(), b"insert t /0/1 -hi\n")?;
-    assert!(rt; !has_list(&beside));
-    let inside = edited(&rt, rt.alloc(), b"retext u /0/0 ho\n")?;
-    assert!(rt; has_list(&inside));
     Ok(())
 }

@@ -2,7 +2,7 @@
 ghost use Rattle.nx_holdings.specs.Header.{AreSettings};
 
 use crate::documents::{BOOK, SMALL, load, wide};
-use crate::stores::{HEAVY, LIGHT, answers, command_of, create, empty_host, new_store, stored};
+use crate::stores::{HEAVY, LIGHT, answers, create, empty_host, new_store, request_of, stored};
 use nx_memory::MemoryHost;
 use nx_records::Settings;
 use nx_script::ScriptError;
@@ -20,23 +20,23 @@ fn answer(
     host: &mut MemoryHost,
     lines: &[u8],
 ) -> Result<Result<(), EngineError>, ScriptError> {
-    let command = command_of(alloc, lines)?;
-    Ok(store.answer(rt, host, command))
+    let request = request_of(alloc, lines)?;
+    Ok(store.answer(rt, host, request))
 }
 
-// What a new store answers, command by command.
+// What a new store answers, request by request.
 fn one_by_one(
     rt: &(impl Threads + Sync),
     alloc: Global,
     settings: Settings,
-    commands: &[&[u8]],
+    requests: &[&[u8]],
 ) -> Result<Bytes, Fail>
     requires { AreSettings settings }
 {
     let mut host = empty_host(alloc)?;
     let mut store = create(alloc, &mut host, settings)?;
-    for command in commands {
-        answer(rt, alloc, &mut store, &mut host, command)??;
+    for request in requests {
+        answer(rt, alloc, &mut store, &mut host, request)??;
     }
     Ok(Bytes::from_slice(alloc, host.output())?)
 }
@@ -46,40 +46,40 @@ fn in_a_script(
     rt: &(impl Threads + Abort + Sync),
     alloc: Global,
     settings: Settings,
-    commands: &[&[u8]],
+    requests: &[&[u8]],
 ) -> Result<Bytes, Fail>
     requires { AreSettings settings }
 {
     let image = new_store(alloc, settings)?;
-    let script = commands.concat(alloc)?;
+    let script = requests.concat(alloc)?;
     Ok(answers(rt, alloc, &image, script.as_slice())?)
 }
 
-// A new store answers these commands so, one by one and in a script.
+// A new store answers these requests so, one by one and in a script.
 fn check(
     rt: &(impl Threads + Abort + Sync),
     alloc: Global,
     settings: Settings,
-    commands: &[&[u8]],
+    requests: &[&[u8]],
     output: &[u8],
 ) -> Result<(), Fail>
     requires { AreSettings settings }
 {
-    let found = one_by_one(rt, alloc, settings, commands)?;
+    let found = one_by_one(rt, alloc, settings, requests)?;
     assert_eq!(rt; found.as_slice(), output);
-    let found = in_a_script(rt, alloc, settings, commands)?;
+    let found = in_a_script(rt, alloc, settings, requests)?;
     assert_eq!(rt; found.as_slice(), output);
     Ok(())
 }
 
-// The same of a light store.
-fn check_light(
+/// The same of a light store.
+pub fn check_light(
     rt: &(impl Threads + Abort + Sync),
     alloc: Global,
-    commands: &[&[u8]],
+    requests: &[&[u8]],
     output: &[u8],
 ) -> Result<(), Fail> {
-    check(rt, alloc, LIGHT, commands, output)
+    check(rt, alloc, LIGHT, requests, output)
 }
 
 // And of one with heavy parts.
@@ -221,11 +221,6 @@ const LOOKS: [&[u8]; 12] = [
 const LOOKED: &[u8] =
     b"error no-document\nok 4 1\nerror exists\nerror pyx 2 bad-nesting\nnode 2 (a\nerror no-node\nerror no-document\nroot 7\n.\nerror no-document\ndoc e 4\n.\nerror syntax\nok\n";
 
-#[test]
-fn small_documents(rt: HostRuntime) -> Result<(), Fail> {
-    check_light(&rt, rt.alloc(), &LOOKS, LOOKED)
-}
-
 const RULES: [&[u8]; 12] = [
     b"rules\n",
     b"rule a b cluster\n",
@@ -243,11 +238,6 @@ const RULES: [&[u8]; 12] = [
 
 const RULED: &[u8] =
     b".\nok\nok\nrule #doc a standalone\nrule a b cluster\n.\nok\nok\nrule #doc a standalone\nrule a b standalone\n.\nok\nok\n.\nerror syntax\nerror syntax\n";
-
-#[test]
-fn rules_are_made(rt: HostRuntime) -> Result<(), Fail> {
-    check_light(&rt, rt.alloc(), &RULES, RULED)
-}
 
 // Rules are those of the last commit when the store is opened again.
 #[test]
@@ -284,12 +274,6 @@ const PLANTS: [&[u8]; 14] = [
 const PLANTED: &[u8] =
     b"ok 8 1\nok\nroot 3\nrun /0 0 1 4\nrun /0 2 6 10\n.\nok\nok\nroot 3\nrun /0 0 1 4\nrun /0 2 3 4\nrun /0 4 4 2\nrun /0 5 7 6\n.\nnode 0 (b\nnode 0 -12345678\nnode 8 (a\nok\nroot 3\nrun /0 0 1 4\nrun /0 2 3 4\nrun /0 4 6 6\n.\nerror bad-place\nerror bad-place\ndoc d 9\n.\n";
 
-// A part that becomes too heavy is split, and a standalone node divides an interval.
-#[test]
-fn nodes_come(rt: HostRuntime) -> Result<(), Fail> {
-    check_light(&rt, rt.alloc(), &PLANTS, PLANTED)
-}
-
 const CLUSTERS: [&[u8]; 4] = [
     b"rule a #text cluster\n",
     SIX,
@@ -298,12 +282,6 @@ const CLUSTERS: [&[u8]; 4] = [
 ];
 
 const CLUSTERED: &[u8] = b"ok\nok 8 1\nok\nroot 1\nrun / 0 0 16\n.\n";
-
-// Texts that stay in their parent's part go with it.
-#[test]
-fn clusters_stay_whole(rt: HostRuntime) -> Result<(), Fail> {
-    check_light(&rt, rt.alloc(), &CLUSTERS, CLUSTERED)
-}
 
 const DIVIDES: [&[u8]; 7] = [
     SIX,
@@ -317,12 +295,6 @@ const DIVIDES: [&[u8]; 7] = [
 
 const DIVIDED: &[u8] =
     b"ok 8 1\nok\nok\nok\nroot 5\nrun /0 0 1 4\nrun /0 2 3 4\nrun /0 5 7 6\n.\nok\nroot 5\nrun /0 0 1 4\nrun /0 2 3 4\nrun /0 5 8 8\n.\n";
-
-// A node of a cluster divides an interval, and a free one joins it.
-#[test]
-fn intervals_are_divided_or_joined(rt: HostRuntime) -> Result<(), Fail> {
-    check_light(&rt, rt.alloc(), &DIVIDES, DIVIDED)
-}
 
 // An element with one below it over six texts, in a part beside the document's node.
 const NESTED: &[u8] =
@@ -338,12 +310,6 @@ const RAISES: [&[u8]; 4] = [
 const RAISED: &[u8] =
     b"ok 9 2\nroot 1\nrun / 0 0 16\n.\nok\nroot 5\nrun /0/0 0 1 4\nrun /0/0 2 6 10\n.\n";
 
-// The separator joins the part of the document's node, which has room.
-#[test]
-fn separators_join_the_part_above(rt: HostRuntime) -> Result<(), Fail> {
-    check_light(&rt, rt.alloc(), &RAISES, RAISED)
-}
-
 const STAYS: [&[u8]; 5] = [
     b"rule #doc a standalone\n",
     NESTED,
@@ -354,12 +320,6 @@ const STAYS: [&[u8]; 5] = [
 
 const STAYED: &[u8] =
     b"ok\nok 9 2\nroot 1\nrun / 0 0 16\n.\nok\nroot 1\nrun / 0 0 4\nrun /0/0 0 1 4\nrun /0/0 2 6 10\n.\n";
-
-// A root that is to be alone doesn't.
-#[test]
-fn standalone_separators_stay(rt: HostRuntime) -> Result<(), Fail> {
-    check_light(&rt, rt.alloc(), &STAYS, STAYED)
-}
 
 const EDITS: [&[u8]; 13] = [
     b"load e\n(a\nAx 1\n-hi\n)a\n.\n",
@@ -379,11 +339,6 @@ const EDITS: [&[u8]; 13] = [
 
 const EDITED: &[u8] =
     b"ok 4 1\nerror twice\nnode 2 (a\nerror no-content\nok\nnode 0 -bye\nok\nerror no-node\ndoc e 4\n.\n(a\nAx \n-bye\n)a\n.\nok\n.\nok\n";
-
-#[test]
-fn contents_come(rt: HostRuntime) -> Result<(), Fail> {
-    check_light(&rt, rt.alloc(), &EDITS, EDITED)
-}
 
 const INSERTS: [&[u8]; 15] = [
     b"insert e /0/1 -x\n",
@@ -406,12 +361,6 @@ const INSERTS: [&[u8]; 15] = [
 
 const NOT_INSERTED: &[u8] =
     b"error no-document\nok 4 1\nerror pyx 1 bad-code\nerror bad-place\nerror no-node\nerror bad-place\nerror bad-place\nerror bad-place\nerror bad-place\nerror bad-place\nerror bad-place\nerror twice\nerror too-heavy /0/1 17\n(a\nAx 1\n-hi\n)a\n.\ndoc e 4\n.\n";
-
-// What may not come is refused by the first reason, and leaves the document.
-#[test]
-fn nodes_are_refused(rt: HostRuntime) -> Result<(), Fail> {
-    check_light(&rt, rt.alloc(), &INSERTS, NOT_INSERTED)
-}
 
 // Two of three attributes and the three children behind them stand in a record of their own.
 const PLACES: [&[u8]; 20] = [
@@ -440,12 +389,6 @@ const PLACES: [&[u8]; 20] = [
 const PLACED: &[u8] =
     b"ok 10 2\nroot 12\nrun /0 1 5 16\n.\nerror bad-place\nerror bad-place\nerror bad-place\nerror bad-place\nerror bad-place\nerror bad-place\nerror bad-place\nerror twice\nerror twice\nok\nok\nok\nok\nok\nerror bad-place\nok\nroot 16\nrun /0 2 2 5\nrun /0 3 3 5\nrun /0 4 8 14\n.\n(a\nAo x\nAp 1234567890123456789012345678\nAq 1234567890123456789012345678\nAr 1234567890123456789012345678\nAs x\n-x\n-12345678\n-12345678\n(b\nAp x\n-x\n)b\n-12345678\n-12345678\n-x\n)a\n.\n";
 
-// The order of attributes forbids a node whichever record its neighbour stands in.
-#[test]
-fn places_are_judged_by_neighbours(rt: HostRuntime) -> Result<(), Fail> {
-    check_light(&rt, rt.alloc(), &PLACES, PLACED)
-}
-
 const RETEXTS: [&[u8]; 8] = [
     b"retext e /0/1 x\n",
     b"load e\n(a\nAx 1\n-hi\n)a\n.\n",
@@ -461,30 +404,6 @@ const RETEXTS: [&[u8]; 8] = [
 const NOT_RETEXTED: &[u8] =
     b"error no-document\nok 4 1\nerror no-node\nerror no-node\nerror no-content\nerror no-content\nerror too-heavy /0/1 17\n(a\nAx 1\n-hi\n)a\n.\n";
 
-#[test]
-fn contents_are_refused(rt: HostRuntime) -> Result<(), Fail> {
-    check_light(&rt, rt.alloc(), &RETEXTS, NOT_RETEXTED)
-}
-
-// A content that is too long is told before all but a document that isn't there.
-#[test]
-fn a_content_is_too_long(rt: HostRuntime) -> Result<(), Fail> {
-    let content = Vec::from_elem(rt.alloc(), b'x', 1_048_577)?;
-    let missing: [&[u8]; 3] = [b"retext f /9 ", content.as_slice(), b"\n"];
-    let long: [&[u8]; 3] = [b"retext e /9 ", content.as_slice(), b"\n"];
-    let missing = missing.concat(rt.alloc())?;
-    let long = long.concat(rt.alloc())?;
-    let small = load(rt.alloc(), b"e", SMALL)?;
-    let commands: [&[u8]; 4] = [
-        small.as_slice(),
-        missing.as_slice(),
-        long.as_slice(),
-        b"export e\n",
-    ];
-    let output = b"ok 4 1\nerror no-document\nerror pyx 1 long-line\n(a\nAx 1\n-hi\n)a\n.\n";
-    check_light(&rt, rt.alloc(), &commands, output)
-}
-
 // So many times this text.
 fn times(alloc: Global, often: usize, text: &[u8]) -> Result<Vec<u8>, AllocError> {
     let mut texts = Vec::new(alloc);
@@ -492,33 +411,6 @@ fn times(alloc: Global, often: usize, text: &[u8]) -> Result<Vec<u8>, AllocError
         texts.extend_from_slice(text)?;
     }
     Ok(texts)
-}
-
-// The document of so many elements, each but the first in the one before.
-fn deep(alloc: Global, elements: usize) -> Result<Vec<u8>, AllocError> {
-    let mut document = times(alloc, elements, b"(a\n")?;
-    document.extend_from_slice(times(alloc, elements, b")a\n")?.as_slice())?;
-    Ok(document)
-}
-
-// A node lies at most 256 deep.
-#[test]
-fn a_node_is_too_deep(rt: HostRuntime) -> Result<(), Fail> {
-    let document = deep(rt.alloc(), 256)?;
-    let lines = load(rt.alloc(), b"d", document.as_slice())?;
-    let path = times(rt.alloc(), 255, b"/0")?;
-    let fits: [&[u8]; 3] = [b"insert d ", path.as_slice(), b"/1 -x\n"];
-    let deeper: [&[u8]; 3] = [b"insert d ", path.as_slice(), b"/0/0 -x\n"];
-    let fits = fits.concat(rt.alloc())?;
-    let deeper = deeper.concat(rt.alloc())?;
-    let commands: [&[u8]; 4] = [
-        lines.as_slice(),
-        deeper.as_slice(),
-        fits.as_slice(),
-        b"names\n",
-    ];
-    let output = b"ok 257 33\nerror too-deep\nok\ndoc d 258\n.\n";
-    check_light(&rt, rt.alloc(), &commands, output)
 }
 
 const CHANGES: &[u8] =
@@ -556,27 +448,6 @@ const DELETES: [&[u8]; 12] = [
 const DELETED: &[u8] =
     b"error no-document\nok 6 1\nerror bad-place\nerror no-node\nerror no-node\nerror bad-place\nok\n(a\nAx 1\n-hi\n)a\n.\nok\n(a\n-hi\n)a\n.\nerror no-node\ndoc e 3\n.\n";
 
-// A tree goes out of a document, and what is refused leaves it.
-#[test]
-fn trees_go(rt: HostRuntime) -> Result<(), Fail> {
-    check_light(&rt, rt.alloc(), &DELETES, DELETED)
-}
-
-const CUT_DEEP: &[u8] =
-    b"load t\n(a\n(b\n(c\n-one\n)c\n(c\n-two\n)c\n)b\n(b\n(c\n-three\n)c\n)b\n)a\n.\ndelete t /0/0/1/0\ndelete t /0/1/0\n";
-
-const CUT_LEFT: &[u8] = b"(a\n(b\n(c\n-one\n)c\n(c\n)c\n)b\n(b\n)b\n)a\n.\n";
-
-// It isn't there either when the store is opened again.
-#[test]
-fn trees_stay_away(rt: HostRuntime) -> Result<(), Fail> {
-    let empty = new_store(rt.alloc(), LIGHT)?;
-    let image = stored(&rt, rt.alloc(), &empty, CUT_DEEP)?;
-    let found = answers(&rt, rt.alloc(), &image, b"export t\n")?;
-    assert_eq!(rt; found.as_slice(), CUT_LEFT);
-    Ok(())
-}
-
 // Each text but one has a record for itself, which goes with it.
 #[test]
 fn texts_go(rt: HostRuntime) -> Result<(), Fail> {
@@ -607,23 +478,6 @@ const DROPS: [&[u8]; 8] = [
 const DROPPED: &[u8] =
     b"error no-document\nok 4 1\nok 2 1\nok\nerror no-document\nerror no-document\nok 2 1\ndoc e 2\ndoc f 2\n.\n";
 
-// A document that went is there no more, and its name is new again.
-#[test]
-fn documents_go(rt: HostRuntime) -> Result<(), Fail> {
-    check_light(&rt, rt.alloc(), &DROPS, DROPPED)
-}
-
-// It isn't there either when the store is opened again.
-#[test]
-fn documents_stay_away(rt: HostRuntime) -> Result<(), Fail> {
-    let script = b"load e\n(a\n)a\n.\ndrop e\n";
-    let empty = new_store(rt.alloc(), LIGHT)?;
-    let image = stored(&rt, rt.alloc(), &empty, script)?;
-    let found = answers(&rt, rt.alloc(), &image, b"names\nexport e\n")?;
-    assert_eq!(rt; found.as_slice(), b".\nerror no-document\n".as_slice());
-    Ok(())
-}
-
 // The 40 contents take more than half of the 63 pages beside the header, which come back each time.
 #[test]
 fn pages_come_back(rt: HostRuntime) -> Result<(), Fail> {
@@ -643,4 +497,40 @@ fn pages_come_back(rt: HostRuntime) -> Result<(), Fail> {
         &commands,
         b"ok 42 1\nok\nok 42 1\nok\nok 42 1\n",
     )
+}
+
+// Commands, and all that a new light store is answered to them.
+type Row = (&'static [&'static [u8]], &'static [u8]);
+
+const ROWS: [Row; 13] = [
+    (&LOOKS, LOOKED),
+    (&RULES, RULED),
+    // A part that becomes too heavy is split, and a standalone node divides an interval.
+    (&PLANTS, PLANTED),
+    // Texts that stay in their parent's part go with it.
+    (&CLUSTERS, CLUSTERED),
+    // A node of a cluster divides an interval, and a free one joins it.
+    (&DIVIDES, DIVIDED),
+    // The separator joins the part of the document's node, which has room.
+    (&RAISES, RAISED),
+    // A root that is to be alone doesn't.
+    (&STAYS, STAYED),
+    (&EDITS, EDITED),
+    // What may not come is refused by the first reason, and leaves the document.
+    (&INSERTS, NOT_INSERTED),
+    // The order of attributes forbids a node whichever record its neighbour stands in.
+    (&PLACES, PLACED),
+    (&RETEXTS, NOT_RETEXTED),
+    // A tree goes out of a document, and what is refused leaves it.
+    (&DELETES, DELETED),
+    // A document that went is there no more, and its name is new again.
+    (&DROPS, DROPPED),
+];
+
+#[test]
+fn rows_of_a_light_store(rt: HostRuntime) -> Result<(), Fail> {
+    for (commands, output) in ROWS {
+        check_light(&rt, rt.alloc(), commands, output)?;
+    }
+    Ok(())
 }

@@ -1,15 +1,12 @@
 // How runs over stores begin and end.
 ghost use Rattle.std.specs.Prelude.{◌<◌};
 
-use crate::documents::{SMALL, load, wide};
-use crate::stores::{
-    HEAVY, LIGHT, answers, empty_host, host_of, host_with, left, new_store, run_script, status_of,
-    words_of,
-};
+use crate::documents::load;
+use crate::stores::{LIGHT, host_with, new_store, run_script};
 use nx_front::Status;
-use nx_memory::{Choice, Image, MemoryHost};
+use nx_memory::{Image, MemoryHost};
 use nx_tree::{Bytes, NoMemory};
-use std::alloc::{AllocError, Global};
+use std::alloc::Global;
 use std::process::Abort;
 use std::test::Fail;
 use std::thread::Threads;
@@ -41,43 +38,6 @@ fn areas_without_a_store(rt: HostRuntime) -> Result<(), Fail> {
     check_without(&rt, rt.alloc(), b"")?;
     check_without(&rt, rt.alloc(), b"NATIXST1")?;
     check_without(&rt, rt.alloc(), &[0; 8_192])?;
-    Ok(())
-}
-
-// Makes a store.
-fn init(
-    rt: &(impl Threads + Sync),
-    alloc: Global,
-    host: &mut MemoryHost,
-) -> Result<Status, NoMemory> {
-    let words = words_of(alloc, &["s", "init", "16"])?;
-    Ok(status_of(rt, alloc, &words, host))
-}
-
-// A store that was made, and took a document.
-fn with_document(
-    rt: &(impl Threads + Abort + Sync),
-    alloc: Global,
-) -> Result<MemoryHost, NoMemory> {
-    let mut new = empty_host(alloc)?;
-    assert_eq!(rt; init(rt, alloc, &mut new)?, Status::Done);
-    let image = left(&new, Choice::Lost)?;
-    let script = load(alloc, b"e", SMALL)?;
-    let mut host = host_with(alloc, &image, script.as_slice(), 5)?;
-    assert_eq!(rt; run_script(rt, alloc, &mut host)?, Status::Done);
-    Ok(host)
-}
-
-#[test]
-fn a_store_that_was_made_takes_documents(rt: HostRuntime) -> Result<(), Fail> {
-    let host = with_document(&rt, rt.alloc())?;
-    assert_eq!(rt; host.output(), b"ok 4 1\n".as_slice());
-    let mut again = host_of(rt.alloc(), left(&host, Choice::Lost)?)?;
-    assert_eq!(rt; init(&rt, rt.alloc(), &mut again)?, Status::Refused);
-    assert_eq!(rt; again.output(), b"refused exists\n".as_slice());
-    let image = left(&again, Choice::Ones)?;
-    let found = answers(&rt, rt.alloc(), &image, b"names\n")?;
-    assert_eq!(rt; found.as_slice(), b"doc e 4\n.\n".as_slice());
     Ok(())
 }
 
@@ -134,21 +94,6 @@ fn a_script_has_its_replies(rt: HostRuntime) -> Result<(), Fail> {
     Ok(())
 }
 
-#[test]
-fn a_disk_that_fails_at_once(rt: HostRuntime) -> Result<(), Fail> {
-    let image = new_store(rt.alloc(), LIGHT)?;
-    let mut host = host_with(rt.alloc(), &image, b"names\n", 8)?;
-    host.fail_calls(&[1])?;
-    assert_eq!(rt; run_script(&rt, rt.alloc(), &mut host)?, Status::DiskFault);
-    assert!(rt; host.output().is_empty());
-    let counts = host.counts();
-    assert_eq!(rt;
-        (counts.faults, counts.in_faults, counts.out_faults),
-        (1, 0, 0)
-    );
-    Ok(())
-}
-
 // How a run ends that is stopped after so many calls, and its host then.
 fn stopped(
     rt: &(impl Threads + Sync),
@@ -202,80 +147,5 @@ fn a_reply_comes_before_more_is_read(rt: HostRuntime) -> Result<(), Fail> {
         }
     }
     assert_eq!(rt; read, 5);
-    Ok(())
-}
-
-// The lines of a load of a document of so many texts and of twice so many looks, and their replies.
-fn many_looks(
-    alloc: Global,
-    texts: usize,
-    loaded: &[u8],
-    named: &[u8],
-    looks: usize,
-) -> Result<(Vec<u8>, Vec<u8>), AllocError> {
-    let document = wide(alloc, texts, 1_000)?;
-    let mut script = load(alloc, b"a", document.as_slice())?;
-    let mut replies = Vec::from_slice(alloc, loaded)?;
-    for _ in 0..looks {
-        script.extend_from_slice(b"names\nexport a\n")?;
-        replies.extend_from_slice(named)?;
-        replies.extend_from_slice(document.as_slice())?;
-        replies.extend_from_slice(b".\n")?;
-    }
-    Ok((script, replies))
-}
-
-// How much is out at a stop, the first part of all replies, and whether all was done.
-fn out_at(
-    rt: &(impl Threads + Abort + Sync),
-    alloc: Global,
-    image: &Image,
-    script: &[u8],
-    replies: &[u8],
-    stop: u64,
-) -> Result<(usize, bool), NoMemory> {
-    let (status, host) = stopped(rt, alloc, image, script, 65_536, stop)?;
-    assert!(rt; replies.starts_with(host.output()), "{stop}");
-    Ok((host.output().len(), status == Status::Done))
-}
-
-// How much is out at the end, and how often something was given. What is out at each stop is the first part of all.
-fn parts_out(
-    rt: &(impl Threads + Abort + Sync),
-    alloc: Global,
-    script: &[u8],
-    replies: &[u8],
-) -> Result<(usize, u32), Fail> {
-    let image = new_store(alloc, HEAVY)?;
-    let mut parts = 0u32;
-    let mut out = 0usize;
-    for stop in 0..400 {
-        let (now, done) = out_at(rt, alloc, &image, script, replies, stop)?;
-        parts = parts.saturating_add(u32::from(out < now));
-        out = now;
-        if done {
-            break;
-        }
-    }
-    Ok((out, parts))
-}
-
-// Replies to looks are gathered, also the exports of a document of one record: the reply to the load is given, then a block
-// of at least 65,536 bytes, and the rest.
-#[test]
-fn gathered_replies(rt: HostRuntime) -> Result<(), Fail> {
-    let (script, replies) = many_looks(rt.alloc(), 1, b"ok 3 1\n", b"doc a 3\n.\n", 70)?;
-    let (out, parts) = parts_out(&rt, rt.alloc(), script.as_slice(), replies.as_slice())?;
-    assert_eq!(rt; (out, parts), (replies.len(), 3));
-    Ok(())
-}
-
-// What waits at an export of several records is given before the second one is read: the reply to the load, fifteen exports,
-// and the rest.
-#[test]
-fn exports_of_several_records(rt: HostRuntime) -> Result<(), Fail> {
-    let (script, replies) = many_looks(rt.alloc(), 10, b"ok 12 5\n", b"doc a 12\n.\n", 15)?;
-    let (out, parts) = parts_out(&rt, rt.alloc(), script.as_slice(), replies.as_slice())?;
-    assert_eq!(rt; (out, parts), (replies.len(), 17));
     Ok(())
 }

@@ -3,11 +3,12 @@
 ghost use Rattle.std.specs.Prelude.{◌<◌, IfOk};
 ghost use Rattle.nx_holdings.specs.Header.{AreSettings};
 ghost use Rattle.nx_script.specs.Commands.{CanCome};
+ghost use Rattle.nx_script.specs.Requests.{CanComeRequest};
 
 use nx_front::{Status, Word, Words, run};
 use nx_memory::{Choice, Image, MemoryHost};
 use nx_records::{Records, Settings, StoreError};
-use nx_script::{Command, Reply, Script, ScriptError};
+use nx_script::{Command, Reply, Request, Requests, Script, ScriptError};
 use nx_store::{EngineError, Store};
 use nx_tree::{Bytes, NoMemory};
 use std::alloc::Global;
@@ -121,6 +122,22 @@ pub fn command_of(alloc: Global, lines: &[u8]) -> Result<Command, ScriptError>
     match script.next(&mut host)? {
         Some(command) => Ok(command),
         None => Ok(Command::Bad),
+    }
+}
+
+/// The first request of these lines.
+pub fn request_of(alloc: Global, lines: &[u8]) -> Result<Request, ScriptError>
+    ensures { IfOk result (λ request. CanComeRequest request) }
+{
+    let image = Image {
+        pages: Bytes::new(alloc),
+        log: Bytes::new(alloc),
+    };
+    let mut host = MemoryHost::new(alloc, image, Bytes::from_slice(alloc, lines)?, 65_536, 0)?;
+    let mut script = Requests::new(alloc)?;
+    match script.next(&mut host)? {
+        Some(request) => Ok(request),
+        None => Ok(Request::Single(Command::Bad)),
     }
 }
 

@@ -10,6 +10,6 @@ abbrev pub invariant-loop-page : goal.invariant-loop-page
 invariant-loop-page g l = record {
   same : l.wal ≡ l.initial.wal;
   still : IsStill g.D.Disk l.initial.disk l.disk;
-  reads : g.D.Disk.reads l.disk ≤ g.D.Disk.reads l.initial.disk + l.page;
+  reads : g.D.Disk.reads l.disk + 1 ≤ g.D.Disk.reads l.initial.disk + l.page;
   pages : (was : Image) → IsInStep g.D.Disk l.initial.wal l.initial.disk was → AreFirstPages l.bytes.items l.page (replay was);
 }

@@ -12,4 +12,4 @@ returns-in-Ok-clause-ok g c was settled state recovers = c.in-Ok.ensures.ok was 
 pub returns-in-Err-clause-refused : goal.returns-in-Err-clause-refused
 returns-in-Err-clause-refused g c was settled =
     subst (λ (e : AskError). NotAsked (λ state. Recovers was (Some state)) e) (sym c.asked_error.ensures)
-    (not_opened_asked g.D.Disk c.in-Err.error c.args.disk.now c.open.new.disk c.in-Err.ensures.refused was settled)
+    (not_opened_asked g.D.Disk c.in-Err.error c.args.disk.now c.open_to_read.new.disk c.in-Err.ensures.refused was settled)

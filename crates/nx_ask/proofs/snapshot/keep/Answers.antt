@@ -1,13 +1,17 @@
+use Rattle.std.proofs.lemmas.Result.{IfOk-weaker, IfErr-weaker}
 use Rattle.nx_ask.proofs.PageLemmas.{in_step_on}
-use Rattle.nx_ask.proofs.SnapshotLemmas.{all_pages_stand, not_kept}
+use Rattle.nx_ask.proofs.SnapshotLemmas.{reads_pages, not_kept_on}
 use Rattle.nx_ask.proofs.snapshot.keep.Goals as goal
 
-pub returns-in-Ok-read_pages-clause-pages : goal.returns-in-Ok-read_pages-clause-pages
-returns-in-Ok-read_pages-clause-pages g c = λ was step.
-    all_pages_stand c.in-Ok-read_pages.bytes.items c.in-Ok.count was
-    (c.in-Ok-read_pages.ensures.ok was (in_step_on c.page_count.ensures.still c.in-Ok.ensures.ok.0 step)) (c.in-Ok.ensures.ok.2 was step)
+pub returns-in-Ok-clause-pages : goal.returns-in-Ok-clause-pages
+returns-in-Ok-clause-pages g c =
+    IfOk-weaker c.keep_below.result _ _ (λ snapshot h. λ was step. h was (in_step_on c.read_first.ensures.still c.in-Ok.ensures.same step)) c.keep_below.ensures.pages
 
-pub returns-clause-refused : goal.returns-clause-refused
-returns-clause-refused g c =
-    not_kept g.D.Disk c.in-Err.error c.args.wal c.page_count.new.self c.in-Ok.count c.args.disk.now c.page_count.new.disk c.read_pages.new.disk c.page_count.ensures.still c.in-Ok.ensures.ok.0
-    (λ was step. c.in-Ok.ensures.ok.2 was step) c.in-Err.ensures.refused
+pub returns-in-Ok-clause-reads : goal.returns-in-Ok-clause-reads
+returns-in-Ok-clause-reads g c was step =
+    reads_pages _ _ _ c.in-Ok.number was c.read_first.ensures.reads c.keep_below.ensures.few (c.in-Ok.ensures.said was step)
+    (λ count is. c.keep_below.ensures.reads was (in_step_on c.read_first.ensures.still c.in-Ok.ensures.same step) count is)
+
+pub returns-in-Ok-clause-refused : goal.returns-in-Ok-clause-refused
+returns-in-Ok-clause-refused g c =
+    IfErr-weaker c.keep_below.result _ _ (λ e h. not_kept_on g.D.Disk e c.args.wal c.read_first.new.wal c.args.disk.now c.read_first.new.disk _ c.read_first.ensures.still c.in-Ok.ensures.same h) c.keep_below.ensures.refused

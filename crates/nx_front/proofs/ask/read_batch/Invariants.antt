@@ -1,15 +1,17 @@
-use Rattle.std.proofs.Common.{◌-◌, ◌≤◌, length}
+use Rattle.std.proofs.Common.{◌≡◌, ◌-◌, ◌≤◌, List, map, length}
 use Rattle.nx_host.specs.Phase.{TakesAlone}
-use Rattle.nx_front.specs.Asking.{batch_size}
+use Rattle.nx_script.specs.declared.request.Request.{Request}
+use Rattle.nx_front.specs.Asking.{as_question, batch_size}
 use Rattle.nx_front.specs.Batches.{GivesBesides}
 use Rattle.nx_front.proofs.ask.read_batch.Given as goal
 
--- as many commands came as the batch has
+-- the batch has what the requests ask that came
 abbrev pub invariant-loop-script : goal.invariant-loop-script
 invariant-loop-script g l =
     let h = g.H.Disk in
-    record {
-      gives : GivesBesides l.batch.items l.initial.script l.script (h.beside l.initial.host).input (h.beside l.host).input;
+    (requests : List Request) × record {
+      asks : map as_question requests ≡ l.batch.items;
+      gives : GivesBesides requests l.initial.script l.script (h.beside l.initial.host).input (h.beside l.host).input;
       alone : TakesAlone h l.initial.host l.host;
       most : length l.batch.items ≤ batch_size;
     }

@@ -1,9 +1,8 @@
 use Rattle.std.proofs.Common.{◌≤◌, ℕ, List, length, sym, ap, ◌∙◌, subst}
-use Rattle.nx_gen.specs.Commands.{commands}
 use Rattle.nx_filters.specs.declared.status.Status.{Status}
 use Rattle.nx_front.specs.Carrying.{CarriesOut}
 use Rattle.nx_front.specs.Conversation.{status_of_engine}
-use Rattle.nx_front.specs.Generating.{Generates}
+use Rattle.nx_front.specs.Generating.{generated_requests, Generates}
 use Rattle.nx_front.proofs.ClockLemmas.{HasClock}
 use Rattle.nx_front.proofs.GeneratingLemmas.{generates_unopened, generates_starved, generates_found, generates_stopped, generates_all}
 use Rattle.nx_front.proofs.generate.generate.Given.{Over}
@@ -34,7 +33,7 @@ say-requires-in-Ok-carry_out g c = subst (λ (l : List ℕ). 1 ≤ length l) (sy
 pub returns-in-Ok-carry_out : goal.returns-in-Ok-carry_out
 returns-in-Ok-carry_out g c =
     generates_all c.args.seed c.args.n (clock g) c.open.ensures.still c.in-Ok.ensures.ok c.in-Ok.ensures.marked (sym c.in-Ok-None.field-0-is ∙ c.in-Ok-None.ensures.ok) c.say-in-Ok-carry_out.result
-    (subst (λ (l : List ℕ). CarriesOut g.H.Disk (commands c.args.seed c.args.n) l c.in-Ok.store c.carry_out.new.store c.open.new.disk c.carry_out.new.disk) (sym c.as_bytes.ensures.value)
+    (subst (λ (l : List ℕ). CarriesOut g.H.Disk (generated_requests c.args.seed c.args.n) l c.in-Ok.store c.carry_out.new.store c.open.new.disk c.carry_out.new.disk) (sym c.as_bytes.ensures.value)
     c.in-Ok-carry_out.ensures.ok)
     c.carry_out.ensures.areas c.say-in-Ok-carry_out.ensures.says c.say-in-Ok-carry_out.ensures.alone
 

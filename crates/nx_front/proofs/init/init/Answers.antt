@@ -14,4 +14,4 @@ returns-in-Exists g c =
 pub returns-in-Disk : goal.returns-in-Disk
 returns-in-Disk g c =
     let refused = rw c.in-Disk.is at c.in-Err.ensures.refused in
-    disk_fails c.args.settings c.create.ensures.goes refused.0
+    disk_fails c.args.settings c.create.ensures.goes refused.0 (λ was settled (p, some). refused.1 was p settled some)

@@ -10,13 +10,13 @@ clock g = record { stands_now = g.met.H.Disk.stands_now; only_now = g.met.H.Disk
 pub returns-in_err-give_block-clause-err : goal.returns-in_err-give_block-clause-err
 returns-in_err-give_block-clause-err g c =
     let p = err_from_is_err_and c.from_residual.result c.from_residual.ensures.1 in
-    rw (p.1, p.2) (block_begins c.args.command c.in_err-give_block.field-0.0 (clock g) c.give_block.ensures.alone)
+    rw (p.1, p.2) (block_begins c.args.request c.in_err-give_block.field-0.0 (clock g) c.give_block.ensures.alone)
 
 pub returns-in-Err-clause-err : goal.returns-in-Err-clause-err
 returns-in-Err-clause-err g c =
     rw c.status_of.ensures
-    (loud_begins c.answer.new.self c.args.command c.in-Err.error (clock g) c.in_ok-give_block.ensures.empty c.in_ok-give_block.ensures.given c.give_block.ensures.alone c.answer.ensures.beside c.in-Err.ensures.answers)
+    (loud_begins c.answer.new.self c.args.request c.in-Err.error (clock g) c.in_ok-give_block.ensures.empty c.in_ok-give_block.ensures.given c.give_block.ensures.alone c.answer.ensures.beside c.in-Err.ensures.answers)
 
 pub returns-clause-ok : goal.returns-clause-ok
 returns-clause-ok g c =
-    loud_answers c.args.command c.in_ok-give_block.ensures.empty c.in_ok-give_block.ensures.given c.give_block.ensures.alone c.answer.ensures.beside c.in_default.ensures.answers
+    loud_answers c.args.request c.in_ok-give_block.ensures.empty c.in_ok-give_block.ensures.given c.give_block.ensures.alone c.answer.ensures.beside c.in_default.ensures.answers

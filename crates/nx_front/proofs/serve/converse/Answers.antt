@@ -1,8 +1,8 @@
 use Rattle.std.proofs.Common.{◌≡◌, true, false, [], ◌++◌, Err, sym, ap, ◌∙◌, subst}
 use Rattle.std.proofs.lemmas.Bool.{MatchBool-at_true}
 use Rattle.std.proofs.lemmas.Result.{err_from_is_err_and}
-use Rattle.nx_script.specs.Commands.{AreCommands, AreWhole}
-use Rattle.nx_script.proofs.ScriptLemmas.{stops}
+use Rattle.nx_script.specs.Requests.{AreRequests, AreWholeRequests}
+use Rattle.nx_script.proofs.RequestLemmas.{requests_stop}
 use Rattle.nx_filters.specs.declared.status.Status.{Status}
 use Rattle.nx_filters.specs.declared.status.Status.TheVariants.{NoMemory}
 use Rattle.nx_filters.specs.TakeError.{status_of_script, status_of_give_error}
@@ -28,49 +28,49 @@ pub returns-in_err-answer_ready : goal.returns-in_err-answer_ready
 returns-in_err-answer_ready g c =
     let p = err_from_is_err_and c.from_residual-in_err-answer_ready.result c.from_residual-in_err-answer_ready.ensures.1 in
     let is : conversation_status c.from_residual-in_err-answer_ready.result ≡ c.in_err-answer_ready.field-0.0 = ap conversation_status p.1 ∙ p.2 in
-    let (taken, commands, talk) = c.loop-block.invariant in
+    let (taken, requests, talk) = c.loop-block.invariant in
     subst (λ (s : Status). Converses g.H.Disk c.args.store.now s c.args.host.now c.answer_ready.new.host) (sym is)
-    (c.in_err-answer_ready.ensures.err c.args.host.now c.args.store.now taken commands talk)
+    (c.in_err-answer_ready.ensures.err c.args.host.now c.args.store.now taken requests talk)
 
 pub returns-in_err-give_block : goal.returns-in_err-give_block
 returns-in_err-give_block g c =
     let p = err_from_is_err_and c.from_residual-in_err-give_block.result c.from_residual-in_err-give_block.ensures.1 in
     let error = c.in_err-give_block.field-0.0 in
     let is : conversation_status c.from_residual-in_err-give_block.result ≡ status_of_give_error error = ap conversation_status p.1 ∙ p.2 in
-    let (taken, commands, talk) = c.loop-block.invariant in
-    let (more, whole, did) = c.in_ok-answer_ready.ensures.ok c.args.host.now c.args.store.now taken commands talk in
+    let (taken, requests, talk) = c.loop-block.invariant in
+    let (more, whole, did) = c.in_ok-answer_ready.ensures.ok c.args.host.now c.args.store.now taken requests talk in
     subst (λ (s : Status). Converses g.H.Disk c.args.store.now s c.args.host.now c.give_block.new.host) (sym is)
     (converses_blocked error (clock g) did c.in_err-give_block.ensures.given c.give_block.ensures.alone)
 
 pub returns-then-is_ended : goal.returns-then-is_ended
 returns-then-is_ended g c =
-    let (taken, commands, talk) = c.loop-block.invariant in
-    let (more, whole, did) = c.in_ok-answer_ready.ensures.ok c.args.host.now c.args.store.now taken commands talk in
+    let (taken, requests, talk) = c.loop-block.invariant in
+    let (more, whole, did) = c.in_ok-answer_ready.ensures.ok c.args.host.now c.args.store.now taken requests talk in
     let empty = c.in_ok-give_block.ensures.empty in
-    let ended : c.answer_ready.new.script.ended ≡ true = sym c.is_ended.ensures ∙ c.if-is_ended.true in
+    let ended : (c.answer_ready.new.script.script).ended ≡ true = sym c.is_ended.ensures ∙ c.if-is_ended.true in
     converses_done (clock g) (conversing_given did empty c.in_ok-give_block.ensures.given c.give_block.ensures.alone) empty ended
-    (MatchBool-at_true (AreCommands taken (commands ++ more)) (AreWhole taken (commands ++ more)) ended whole)
+    (MatchBool-at_true (AreRequests taken (requests ++ more)) (AreWholeRequests taken (requests ++ more)) ended whole)
 
 pub loop-block-preserved : goal.loop-block-preserved
 loop-block-preserved g c =
-    let (taken, commands, talk) = c.loop-block.invariant in
-    let (more, whole, did) = c.in_ok-answer_ready.ensures.ok c.args.host.now c.args.store.now taken commands talk in
+    let (taken, requests, talk) = c.loop-block.invariant in
+    let (more, whole, did) = c.in_ok-answer_ready.ensures.ok c.args.host.now c.args.store.now taken requests talk in
     let after = conversing_given did c.in_ok-give_block.ensures.empty c.in_ok-give_block.ensures.given c.give_block.ensures.alone in
-    let (bytes, given) = c.in_ok-fill.ensures.ok (g.H.Disk.beside c.args.host.now).input taken (commands ++ more) after.given in
-    (taken ++ bytes, commands ++ more, conversing_filled after given c.fill.ensures.alone)
+    let (bytes, given) = c.in_ok-fill.ensures.ok (g.H.Disk.beside c.args.host.now).input taken (requests ++ more) after.given in
+    (taken ++ bytes, requests ++ more, conversing_filled after given c.fill.ensures.alone)
 
 pub returns-in_err-fill : goal.returns-in_err-fill
 returns-in_err-fill g c =
     let p = err_from_is_err_and c.from_residual-in_err-fill.result c.from_residual-in_err-fill.ensures.1 in
     let error = c.in_err-fill.field-0.0 in
     let is : conversation_status c.from_residual-in_err-fill.result ≡ status_of_script error = ap conversation_status p.1 ∙ p.2 in
-    let (taken, commands, talk) = c.loop-block.invariant in
-    let (more, whole, did) = c.in_ok-answer_ready.ensures.ok c.args.host.now c.args.store.now taken commands talk in
+    let (taken, requests, talk) = c.loop-block.invariant in
+    let (more, whole, did) = c.in_ok-answer_ready.ensures.ok c.args.host.now c.args.store.now taken requests talk in
     let empty = c.in_ok-give_block.ensures.empty in
     let after = conversing_given did empty c.in_ok-give_block.ensures.given c.give_block.ensures.alone in
-    let unended : c.answer_ready.new.script.ended ≡ false = sym c.is_ended.ensures ∙ c.if-is_ended.false in
-    let given = c.in_err-fill.ensures.err (g.H.Disk.beside c.args.host.now).input taken (commands ++ more) after.given in
+    let unended : (c.answer_ready.new.script.script).ended ≡ false = sym c.is_ended.ensures ∙ c.if-is_ended.false in
+    let given = c.in_err-fill.ensures.err (g.H.Disk.beside c.args.host.now).input taken (requests ++ more) after.given in
     let last = conversing_filled after given c.fill.ensures.alone in
-    let stopped = stops {new = c.fill.new.self} {error = error} [] taken c.in_err-fill.ensures.errors c.in_err-fill.ensures.too_much unended after.given (after.given.given, whole) given in
+    let stopped = requests_stop c.answer_ready.new.script c.fill.new.self {error = error} [] taken c.in_err-fill.ensures.errors c.in_err-fill.ensures.too_much unended after.given (after.given.given, whole) given in
     subst (λ (s : Status). Converses g.H.Disk c.args.store.now s c.args.host.now c.fill.new.host) (sym is)
     (converses_unfilled error (clock g) last empty after.goes.counts.read (λ e. c.in_err-fill.ensures.cause (ap (λ v. Err v) e)) stopped)

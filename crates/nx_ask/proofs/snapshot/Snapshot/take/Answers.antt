@@ -3,7 +3,8 @@ use Rattle.std.specs.Prelude.{Option, IfSome}
 use Rattle.std.proofs.lemmas.Result.{IfOk-weaker, IfErr-weaker}
 use Rattle.nx_host.specs.Disk.{Image}
 use Rattle.nx_numbers.specs.Sizes.{entry_size}
-use Rattle.nx_ask.proofs.SnapshotLemmas.{not_taken}
+use Rattle.nx_replay.specs.Log.{replay}
+use Rattle.nx_ask.proofs.SnapshotLemmas.{counted_some, not_taken}
 use Rattle.nx_ask.proofs.snapshot.Snapshot.take.Goals as goal
 
 pub returns-in-Ok-clause-pages : goal.returns-in-Ok-clause-pages
@@ -12,11 +13,15 @@ returns-in-Ok-clause-pages g c =
 
 pub returns-in-Ok-clause-refused : goal.returns-in-Ok-clause-refused
 returns-in-Ok-clause-refused g c =
-    IfErr-weaker c.keep.result _ _ (λ e h. not_taken g.D.Disk e c.in-Ok.wal c.args.disk.now c.open.new.disk c.keep.new.disk c.open.ensures.still c.in-Ok.ensures.ok h) c.keep.ensures.refused
+    IfErr-weaker c.keep.result _ _ (λ e h. not_taken g.D.Disk e c.in-Ok.wal c.args.disk.now c.open_to_read.new.disk c.keep.new.disk c.open_to_read.ensures.still c.in-Ok.ensures.ok h) c.keep.ensures.refused
 
 pub returns-in-Ok-clause-reads : goal.returns-in-Ok-clause-reads
-returns-in-Ok-clause-reads g c was settled count is =
+returns-in-Ok-clause-reads g c was settled =
     let d = g.D.Disk in
-    let opened = subst (λ (o : Option Image). IfSome o (λ image. d.reads c.open.new.disk ≤ d.reads c.args.disk.now + (3 * (length image.log / entry_size + 1) + 1))) settled.here c.in-Ok.ensures.reads in
-    let kept = c.keep.ensures.reads was (c.in-Ok.ensures.ok was settled).0 count is in
-    omega (arith, opened, kept)
+    let opened = subst (λ (o : Option Image). IfSome o (λ image. d.reads c.open_to_read.new.disk ≤ d.reads c.args.disk.now + (3 * (length image.log / entry_size + 1) + 1))) settled.here c.in-Ok.ensures.reads in
+    let begun = c.in-Ok.ensures.ok was settled in
+    let kept = c.keep.ensures.reads was begun.0 in
+    record {
+      below = λ number said. (let read = kept.below number said in omega (arith, opened, read));
+      there = λ count is. (let read = kept.there count is in let some = counted_some (replay was) count is begun.1 in omega (arith, opened, read, some));
+    }

@@ -1,6 +1,6 @@
 use Rattle.std.proofs.Common.{ap, ◌∙◌}
 use Rattle.std.specs.FinMap.{get, get-empty}
-use Rattle.nx_script.specs.Field.{name_order}
+use Rattle.nx_pyx.specs.DocumentName.{name_order}
 use Rattle.nx_catalog.proofs.NameMap.{map_in-empty}
 use Rattle.nx_front.proofs.gathered.Gathered.new.Goals as goal
 

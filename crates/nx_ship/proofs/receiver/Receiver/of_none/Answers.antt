@@ -5,7 +5,7 @@ use Rattle.nx_wal.specs.declared.error.WalError.{WalError}
 use Rattle.nx_ship.specs.Applying.{IsUnapplied}
 use Rattle.nx_ship.specs.Sent.{IsFault}
 use Rattle.nx_ship.specs.declared.error.ShipError.{ShipError}
-use Rattle.nx_ship.proofs.OpenLemmas.{log_unapplied, created_fault}
+use Rattle.nx_ship.proofs.OpenLemmas.{log_unapplied, created_fault, none_lost}
 use Rattle.nx_ship.proofs.receiver.Receiver.of_none.Goals as goal
 
 pub returns-in-Ok-clause-ok : goal.returns-in-Ok-clause-ok
@@ -18,6 +18,7 @@ returns-in-Ok-clause-ok g c was settled =
       step = here.0;
       last = here.1;
       open_for = inr here.1;
+      whole = none_lost was here.1;
     }
 
 pub returns-in-Err-Exists-clause-err : goal.returns-in-Err-Exists-clause-err

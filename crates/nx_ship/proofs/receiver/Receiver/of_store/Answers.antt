@@ -1,8 +1,8 @@
-use Rattle.std.proofs.Common.{refl, sym, ap, subst, ◌∙◌, inl}
+use Rattle.std.proofs.Common.{refl, ap, ◌∙◌, inl}
 use Rattle.std.proofs.lemmas.Result.{err_from_is_err_and}
-use Rattle.nx_host.proofs.DiskLemmas.{settled_still}
-use Rattle.nx_wal.specs.Wal.{Follows, pending}
+use Rattle.nx_wal.specs.Wal.{pending}
 use Rattle.nx_wal.specs.declared.wal.Wal.{Wal}
+use Rattle.nx_ship.proofs.OpenLemmas.{step_after}
 use Rattle.nx_ship.proofs.receiver.Receiver.of_store.Goals as goal
 
 pub returns-in_err-header-clause-err : goal.returns-in_err-header-clause-err
@@ -23,7 +23,8 @@ returns-clause-ok g c was step =
       read = c.new.ensures;
       offset = refl;
       none = ap (λ (w : Wal). pending w) same ∙ c.requires;
-      step = record { settled = settled_still c.read_head.ensures.still step.settled; follows = subst (λ (w : Wal). Follows w was.log) (sym same) step.follows };
+      step = step_after _ _ c.read_whole_head.ensures.still same step;
       last = (c.in_ok-header.header, headed, refl);
       open_for = inl (c.in_ok-header.header.number, (c.in_ok-header.header, headed, refl));
+      whole = c.in_ok-header.ensures.whole was step c.requires;
     }

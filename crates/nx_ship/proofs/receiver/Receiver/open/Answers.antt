@@ -7,7 +7,7 @@ use Rattle.nx_wal.specs.declared.wal.Wal.{Wal}
 use Rattle.nx_ship.specs.Sent.{FindsStore}
 use Rattle.nx_ship.proofs.TakingLemmas.{if_err_map}
 use Rattle.nx_ship.proofs.ShippingLemmas.{earlier_fault}
-use Rattle.nx_ship.proofs.OpenLemmas.{headless_unapplied, cut_unapplied, if_ok_map}
+use Rattle.nx_ship.proofs.OpenLemmas.{cut_unapplied, if_ok_map}
 use Rattle.nx_ship.proofs.receiver.Receiver.open.Goals as goal
 
 pub returns-in_err-found-clause-err : goal.returns-in_err-found-clause-err
@@ -35,7 +35,7 @@ pub returns-in-Some-clause-err : goal.returns-in-Some-clause-err
 returns-in-Some-clause-err g c =
     if_err_map c.of_store.result c.of_store.ensures.err (λ e err was settled.
     let (step, mark) = subst (λ (o : Option Wal). FindsStore g.D.Disk was o c.find_store.new.disk) c.in-Some.is (c.in_ok-found.ensures.ok was settled) in
-    headless_unapplied was e mark (err was step))
+    err was step mark)
 
 pub returns-in-Some-clause-cause : goal.returns-in-Some-clause-cause
 returns-in-Some-clause-cause g c =
