@@ -2,7 +2,7 @@
 
     >>> import natix, tempfile, os
     >>> shelf = os.path.join(tempfile.mkdtemp(), "shelf")
-    >>> with natix.Store.create(shelf, k=16) as store:
+    >>> with natix.Store.create(shelf) as store:
     ...     store.load("shop", '<shop lang="en"><item>tea</item></shop>')
     ...     store.get("shop", (0, 1))
     Loaded(nodes=5, intervals=1)
@@ -41,6 +41,45 @@ which commands it had answered. Many commands go faster together, by `Store.ask_
     >>> [answer.name for answer in answers[:2]], answers[2]
     (['item', 'shelf'], Refused('no-node'))
 
+Several commands are carried out as one by a transaction: whatever comes between, the store has all of them or none. They are
+sent at the end of the block; where that is left by an exception nothing is sent, and where one of them is refused the store stays as it was:
+
+    >>> with natix.Store.open(shelf) as store:
+    ...     with store.transaction():
+    ...         store.rename("shop", "tea")
+    ...         store.insert("tea", (0, 0), natix.Node.attribute("lang", "de"))
+    ...     with store.transaction():
+    ...         store.delete("tea", (0, 0))
+    ...         store.drop("shop")
+    Traceback (most recent call last):
+    natix.Refused: no-document, by command 2 of a transaction: drop shop
+
+So are whole subtrees put in, replaced, moved and copied:
+
+    >>> with natix.Store.open(shelf) as store:
+    ...     store.graft("tea", (0, 3), "<shelf><item>pot</item>two</shelf>!")
+    ...     store.move("tea", (0, 3, 0), (0, 1))
+    ...     store.replace("tea", (0, 3), "<rack/>")
+    ...     store.relabel("tea", (0,), "shop")
+    ...     store.export("tea")
+    5
+    (0, 1)
+    1
+    '<shop lang="de"><item>pot</item><item>black tea</item><rack/><shelf>two</shelf>!</shop>\\n'
+    >>> with natix.Store.open(shelf) as store:
+    ...     store.rename("tea", "shop")
+
+A load leaves comments and the document type out, and says so; `keep` keeps them. `put` replaces a document, which stays
+where the new one is refused:
+
+    >>> with natix.Store.open(shelf) as store:
+    ...     store.put("shop", "<!-- closed --><shop/>")
+    ...     store.put("shop", "<!-- closed --><shop/>", keep=True)
+    ...     store.export("shop")
+    Loaded(nodes=2, intervals=1, left_out=('1 comment',))
+    Loaded(nodes=3, intervals=1)
+    '<!-- closed -->\\n<shop/>\\n'
+
 The program `natix` is the one that `$NATIX` names, or that of this repository, or the one on the PATH; `xmlpyx`, which
 makes PYX of XML, stands beside this module, or `$XMLPYX` names it. No store is for two threads at once.
 """
@@ -51,24 +90,29 @@ import contextlib
 import os
 import re
 import select
-import shutil
 import signal
 import subprocess
-import sys
-import tempfile
+import time
 import xml.etree.ElementTree as tree
-from typing import (Any, BinaryIO, Callable, Dict, Generic, Iterable, Iterator, List, NamedTuple, Optional, Sequence, Tuple, Type, TypeVar,
-                    Union, cast, overload)
+from typing import (IO, Any, Callable, Dict, Generic, Iterable, Iterator, List, NamedTuple, Optional, Sequence, Set, Tuple, Type, TypeVar, Union, cast,
+                    overload)
 
-__all__ = ["Bound", "Command", "Ended", "Error", "Interval", "Loaded", "Node", "NotXml", "Plan", "Pyx", "Refused", "Store", "checkpoint", "delete",
-           "drop", "export", "get", "insert", "layout", "load", "names", "new_file", "plan", "pyx", "retext", "rule", "rules", "tidy", "verify"]
+import natix_faults
+import natix_subtrees
+from natix_sources import Error, NotXml, Pyx, Source, find_natix, new_file, pyx, xml_of
 
-HERE = os.path.dirname(os.path.abspath(__file__))
+__all__ = ["Bound", "Command", "Ended", "Error", "Gathered", "Interval", "Loaded", "Node", "NotXml", "Plan", "Pyx", "Refused", "Store", "Transaction",
+           "checkpoint", "delete", "drop", "export", "get", "graft", "insert", "layout", "load", "names", "new_file", "plan", "pyx", "rename", "retext", "rule",
+           "rules", "tidy", "verify"]
+
 BLOCK = 65536
+REPLACEMENT = "~natix-new~"  # before the name of a document that is replaced, as this module did it before there were transactions
+MOST_ASKED = 4096  # nodes of a subtree that are asked for one by one
+CHANGES = (b"load", b"drop", b"rename", b"insert", b"delete", b"retext", b"rule")  # what may stand in a transaction
 STATUSES = {
     1: "the arguments are no command line",
     2: "the input was refused, or there was a store already",
-    3: "a file of the store failed, or another process has it",
+    3: "a file of the store failed, or another process had it",
     4: "reading failed",
     5: "writing failed",
     6: "there was no memory",
@@ -84,15 +128,17 @@ Answer = TypeVar("Answer")
 # What comes back
 
 
-class Pyx(bytes):
-    """The lines of a document in PYX."""
-
-
 class Loaded(NamedTuple):
-    """How many nodes a document has, its root counted, and how many intervals it is stored in."""
+    """How many nodes a document has, its root counted, how many intervals it is stored in, and what of its XML was left out:
+    comments and the document type, where `keep` didn't ask for them."""
 
     nodes: int
     intervals: int
+    left_out: Tuple[str, ...] = ()
+
+    def __repr__(self) -> str:
+        more = f", left_out={self.left_out!r}" if self.left_out else ""
+        return f"Loaded(nodes={self.nodes}, intervals={self.intervals}{more})"
 
 
 class Node(NamedTuple):
@@ -159,17 +205,16 @@ class Plan(NamedTuple):
 # What goes wrong
 
 
-class Error(Exception):
-    """Anything that natix says instead of an answer."""
-
-
 class Refused(Error):
     """A refusal, which changed nothing: its word as in docs/FORMATS.md, and where it has them the line of the PYX, the path
-    of the node and its weight. `fields` are the words of the refusal as they came."""
+    of the node and its weight. `fields` are the words of the refusal as they came, `command` is what was refused, and `name` the document that it is
+    about, where it is about one. Of a transaction `number` says which of its commands was refused, from 1."""
 
-    def __init__(self, said: str, command: str = "") -> None:
-        super().__init__(said)
-        self.command = command
+    def __init__(self, said: str, command: str = "", number: Optional[int] = None) -> None:
+        super().__init__(said if number is None else f"{said}, by command {number} of a transaction: {command}")
+        self.command, self.number, self.said = command, number, said
+        words = command.split(" ", 2)
+        self.name: Optional[str] = words[1] if len(words) > 1 and words[0] not in ("rule", "begin;") else None
         self.fields: Tuple[str, ...] = tuple(said.split())
         self.word: str = self.fields[0] if self.fields else said
         self.line: Optional[int] = None
@@ -180,30 +225,30 @@ class Refused(Error):
         elif self.word == "plan-line":
             self.line = int(self.fields[1])
         elif self.word == "too-heavy":
-            self.path, self.weight = _read_path(self.fields[1]), int(self.fields[2])
+            self.path, self.weight = read_path(self.fields[1]), int(self.fields[2])
 
 
 class Ended(Error):
     """The program ended: `status` is its exit status, or below 0 the signal that ended it, and `meaning` says what that is.
 
+    Where a store can't be opened, `why` says who has it, or what is missing, as far as that shows.
+
     `answered` are the commands of the call that were answered, each with its answer, and `unanswered` those that
     weren't; `count` says how many were answered in the whole session. What was answered is kept. Of the rest at most one
     is, the first that changes the store: `uncertain`, None where there is none."""
 
-    def __init__(self, status: int, said: str, answered: List[Tuple[str, Any]], unanswered: List[str], count: int, uncertain: Optional[str]) -> None:
+    def __init__(self, status: int, said: str, answered: List[Tuple[str, Any]], unanswered: List[str], count: int, uncertain: Optional[str],
+                 why: Optional[str] = None) -> None:
         self.status, self.said, self.count = status, said, count
         self.answered, self.unanswered, self.uncertain = answered, unanswered, uncertain
-        self.meaning = STATUSES.get(status, "") if status >= 0 else f"a signal ended it: {_signal_name(-status)}"
+        self.why = why  # what was found out about it from outside
+        self.meaning = why or (STATUSES.get(status, "") if status >= 0 else f"a signal ended it: {_signal_name(-status)}")
         what = f"natix ended with {status}: {self.meaning or 'the end of its input'}" + (f" ({said})" if said else "")
         if answered or unanswered:
             what += f"; of this call {len(answered)} commands were answered, and {len(unanswered)} weren't"
         if uncertain is not None:
             what += f", of which `{uncertain}` may have been carried out"
         super().__init__(what)
-
-
-class NotXml(Error):
-    """What xmlpyx refuses, with the place: XML that is malformed or has what PYX can't say, or a document that XML can't."""
 
 
 def _signal_name(number: int) -> str:
@@ -251,7 +296,8 @@ def _path(path: Sequence[int]) -> bytes:
     return b"".join(b"/%d" % position for position in path) or b"/"
 
 
-def _read_path(text: str) -> Path:
+def read_path(text: str) -> Path:
+    """The path that `/0/2` is."""
     return tuple(int(position) for position in text.split("/")[1:] if position)
 
 
@@ -287,11 +333,18 @@ def _line_node(line: bytes, children: int) -> Node:
     return Node(kind, _text(name), _content(content), children)
 
 
+def read_line(line: str) -> Tuple[str, str, str]:
+    """The code of a line of PYX, its name and its content; that of a text has no name."""
+    code, rest = line[:1], line[1:]
+    name, _, content = ("", "", rest) if code == "-" else rest.partition(" ")
+    return code, name, _content(_bytes(content)) if "\\" in content else content
+
+
 def _read_interval(line: bytes) -> Interval:
     words = line.split()
     if words[0] == b"root":
         return Interval(None, 0, 0, int(words[1]))
-    return Interval(_read_path(_text(words[1])), int(words[2]), int(words[3]), int(words[4]))
+    return Interval(read_path(_text(words[1])), int(words[2]), int(words[3]), int(words[4]))
 
 
 # Commands
@@ -308,6 +361,53 @@ class Command(Generic[Answer]):
     def __repr__(self) -> str:
         return _text(self.line[:200])
 
+    @property
+    def word(self) -> bytes:
+        return self.line.partition(b" ")[0]
+
+    @property
+    def documents(self) -> List[str]:
+        """The names of the documents that it is about."""
+        names = {b"rename": 2, b"rule": 0}.get(self.word, 1)
+        return [_text(name) for name in self.line.split(b" ", 3)[1:1 + names]]
+
+    def refused(self, said: str) -> Refused:
+        """What is raised where this is what it is refused by."""
+        return Refused(said, repr(self))
+
+
+class Transaction(Command[List[Any]]):
+    """Commands that change the store, carried out as one: all of them, or where one is refused none. Its answer is theirs."""
+
+    __slots__ = ("commands",)
+
+    def __init__(self, commands: Iterable[Command[Any]]) -> None:
+        self.commands = list(commands)
+        for command in self.commands:
+            if command.word not in CHANGES:
+                raise ValueError(f"`{command!r}` can't stand in a transaction")
+        body = b"".join(part for command in self.commands for part in (command.line, b"\n", command.body))
+        super().__init__(b"begin", self.answers, has_lines=True, changes=bool(self.commands), body=body + b"commit\n")
+
+    def __repr__(self) -> str:
+        shown = [repr(command) for command in self.commands[:3]]
+        more = len(self.commands) - len(shown)
+        return "; ".join(["begin", *shown, *([f".. {more} more"] if more else []), "commit"])
+
+    @property
+    def documents(self) -> List[str]:
+        return list(dict.fromkeys(name for command in self.commands for name in command.documents))
+
+    def answers(self, reply: List[bytes]) -> List[Any]:
+        return [command.read([line]) for command, line in zip(self.commands, reply)]
+
+    def refused(self, said: str) -> Refused:
+        found = re.fullmatch(r"at ([0-9]+) (.*)", said, re.S)
+        if not found:
+            return super().refused(said)
+        number = int(found[1])
+        return Refused(found[2], repr(self.commands[number - 1]), number)
+
 
 def _nothing(reply: List[bytes]) -> None:
     return None
@@ -318,14 +418,20 @@ def _read_loaded(reply: List[bytes]) -> Loaded:
     return Loaded(int(nodes), int(intervals))
 
 
-def load(name: str, source: Source) -> Command[Loaded]:
+def load(name: str, source: Source, keep: bool = False) -> Command[Loaded]:
     """Keeps a document under a new name."""
-    return Command(b"load " + _word(name), _read_loaded, changes=True, body=_document(source))
+    lines = pyx(source, keep)
+    return Command(b"load " + _word(name), lambda reply: _read_loaded(reply)._replace(left_out=lines.left_out), changes=True, body=_document(lines))
 
 
 def drop(name: str) -> Command[None]:
     """Forgets a document."""
     return Command(b"drop " + _word(name), _nothing, changes=True)
+
+
+def rename(old: str, new: str) -> Command[None]:
+    """Gives a document another name, which is new."""
+    return Command(b"rename %b %b" % (_word(old), _word(new)), _nothing, changes=True)
 
 
 def names() -> Command[Dict[str, int]]:
@@ -346,6 +452,11 @@ def insert(name: str, path: Sequence[int], node: Node) -> Command[None]:
 def delete(name: str, path: Sequence[int]) -> Command[None]:
     """Takes away the node at the path, and all below it."""
     return Command(b"delete %b %b" % (_word(name), _path(path)), _nothing, changes=True)
+
+
+def graft(name: str, path: Sequence[int], lines: bytes) -> List[Command[None]]:
+    """The commands that put nodes with all below them at the path: those of some lines of PYX, beside each other."""
+    return [Command(b"insert %b %b %b" % (_word(name), _path(here), line), _nothing, changes=True) for here, line in natix_subtrees.placed(path, lines)]
 
 
 def retext(name: str, path: Sequence[int], content: Union[str, bytes]) -> Command[None]:
@@ -387,79 +498,9 @@ def _document(source: Source) -> bytes:
     return lines + (b".\n" if lines.endswith(b"\n") or not lines else b"\n.\n")
 
 
-# Programs
-
-
-def _find_natix(named: Optional[str] = None) -> str:
-    for program in (named, os.environ.get("NATIX"), os.path.join(HERE, "..", "crates", "natix", "out", "natix"), shutil.which("natix")):
-        if program and os.access(program, os.X_OK):
-            return program
-    raise FileNotFoundError("there is no program natix: name it by $NATIX, or put it on the PATH")
-
-
-def _find_xmlpyx() -> List[str]:
-    beside = os.path.join(HERE, "xmlpyx")
-    for program in (os.environ.get("XMLPYX"), os.path.join(HERE, "fast", "xmlpyx"), beside, shutil.which("xmlpyx")):
-        if program and os.access(program, os.X_OK):
-            return [sys.executable, program] if program == beside else [program]
-    raise FileNotFoundError("there is no program xmlpyx: name it by $XMLPYX, or put it on the PATH")
-
-
-def _convert(direction: str, source: Union[bytes, BinaryIO]) -> bytes:
-    """What xmlpyx makes of a source."""
-    words = [*_find_xmlpyx(), direction]
-    if isinstance(source, bytes):
-        done = subprocess.run(words, input=source, stdout=subprocess.PIPE, stderr=subprocess.PIPE)
-    else:
-        done = subprocess.run(words, stdin=source, stdout=subprocess.PIPE, stderr=subprocess.PIPE)
-    _check_xmlpyx(done.returncode, done.stderr)
-    return done.stdout
-
-
-def _check_xmlpyx(status: int, said: bytes) -> None:
-    """Raises what xmlpyx said where it didn't end well."""
-    if status:
-        why = said.decode("utf-8", "replace").strip()
-        if why.startswith("xmlpyx: "):
-            why = why[8:]
-        raise NotXml(why) if status == 2 else Error(f"xmlpyx ended with {status}: {why}")
-
-
-Source = Union[str, bytes, Pyx, "os.PathLike[str]", BinaryIO, tree.Element, "tree.ElementTree"]
-
-
-def pyx(source: Source) -> Pyx:
-    """A document in PYX, of a string or bytes of XML, a path or an open file of XML, an ElementTree, or PYX.
-
-    >>> pyx("<a>x</a>")
-    b'(a\\n-x\\n)a\\n'
-    >>> pyx("<a>")
-    Traceback (most recent call last):
-    natix.NotXml: line 1, column 4: no element found
-    """
-    if isinstance(source, Pyx):
-        return source
-    if isinstance(source, str):
-        return Pyx(_convert("in", re.sub(r"^(\ufeff?<\?xml[^>]*?)\s+encoding\s*=\s*(\"[^\"]*\"|'[^']*')", r"\1", source).encode()))
-    if isinstance(source, bytes):
-        return Pyx(_convert("in", source))
-    if isinstance(source, tree.ElementTree):
-        source = cast(tree.Element, source.getroot())
-    if isinstance(source, tree.Element):
-        tail, source.tail = source.tail, None
-        try:
-            return Pyx(_convert("in", tree.tostring(source, "utf-8")))
-        finally:
-            source.tail = tail
-    if isinstance(source, os.PathLike):
-        with open(source, "rb") as file:
-            return Pyx(_convert("in", file))
-    return Pyx(_convert("in", source))
-
-
 def _run(words: Sequence[str], source: bytes) -> List[bytes]:
     """The lines that a command of natix without a session answers."""
-    done = subprocess.run([_find_natix(), *words], input=source, stdout=subprocess.PIPE, stderr=subprocess.PIPE)
+    done = subprocess.run([find_natix(), *words], input=source, stdout=subprocess.PIPE, stderr=subprocess.PIPE)
     lines = done.stdout.split(b"\n")[:-1]
     if done.returncode == 2:
         raise Refused(_text(lines[0]).partition(" ")[2], " ".join(words))
@@ -510,6 +551,37 @@ def verify(source: Source, claimed: Plan, k: int) -> int:
 
 # Stores
 
+
+class Gathered:
+    """The commands of a transaction that is under way, and behind its end what they were answered."""
+
+    def __init__(self, names: Callable[[], Iterable[str]]) -> None:
+        self.commands: List[Command[Any]] = []
+        self.answers: List[Any] = []
+        self._names = names
+
+    def take(self, command: Command[Any]) -> None:
+        self.commands += command.commands if isinstance(command, Transaction) else Transaction([command]).commands
+
+    def has(self, name: str) -> bool:
+        """Whether there is a document of a name behind these commands, where none of them is refused."""
+        names = set(self._names())
+        for command in self.commands:
+            old, *new = [*command.documents, ""]
+            if command.word in (b"drop", b"rename"):
+                names.discard(old)
+            if command.word in (b"load", b"rename"):
+                names.add(new[0] if command.word == b"rename" else old)
+        return name in names
+
+    def check(self, question: Command[Any]) -> None:
+        """Refuses a question whose answer may be another one behind these commands, of which the store knows nothing yet."""
+        words = {command.word for command in self.commands}
+        changed: Set[str] = {name for command in self.commands for name in command.documents}
+        if question.word == b"names" and self.commands or question.word == b"rules" and b"rule" in words or changed.intersection(question.documents):
+            raise ValueError(f"`{question!r}` is asked of what a transaction that isn't sent yet has changed: ask before")
+
+
 Target = TypeVar("Target")
 
 
@@ -518,36 +590,57 @@ class Store:
 
     A call that is interrupted, as by Ctrl-C, ends the process: what was answered is kept, and the store is opened again."""
 
-    def __init__(self, path: Union[str, "os.PathLike[str]"], program: Optional[str] = None) -> None:
-        self.path = _store_word(path)
+    def __init__(self, path: Union[str, "os.PathLike[str]"], program: Optional[str] = None, wait: float = 0.0) -> None:
+        end = time.monotonic() + wait
+        while True:
+            self.path = _store_word(path)
+            try:
+                self._begin(program)
+            except Ended as ended:
+                if ended.status != 3 or time.monotonic() >= end:
+                    raise
+                time.sleep(0.1)
+                continue
+            if self.path == _store_word(path):
+                return
+            self.close()  # a link led elsewhere meanwhile
+
+    def _begin(self, program: Optional[str]) -> None:
+        """Starts the program."""
         self._answered = 0  # in the whole session
+        self._gathered: Optional[Gathered] = None
         self._rest = b""  # what came of a line of a reply
-        self._process = subprocess.Popen([_find_natix(program), self.path, "run"], stdin=subprocess.PIPE, stdout=subprocess.PIPE, stderr=subprocess.PIPE, bufsize=0,
-                                         start_new_session=True)  # Ctrl-C is for this program to take
+        self._process = subprocess.Popen([find_natix(program), self.path, "run"], stdin=subprocess.PIPE, stdout=subprocess.PIPE, stderr=subprocess.PIPE,
+                                         bufsize=0, start_new_session=True)  # Ctrl-C is for this program to take
         for pipe in (self._process.stdin, self._process.stdout):
-            os.set_blocking(cast(BinaryIO, pipe).fileno(), False)
-        self.ask_all([Command(b"", _nothing)])  # answered as a line that is no command once the store is open
+            os.set_blocking(cast(IO[bytes], pipe).fileno(), False)
+        try:
+            self.ask_all([Command(b"", _nothing)])  # answered as a line that is no command once the store is open
+        except Ended as ended:
+            why = natix_faults.explain(self.path) if ended.status == 3 else natix_faults.missing(self.path) if ended.status == 7 else None
+            raise Ended(ended.status, ended.said, [], [], 0, None, why) from None
         self._answered = 0
 
     @classmethod
-    def create(cls, path: Union[str, "os.PathLike[str]"], k: int = 64, target: Optional[int] = None, tolerance: Optional[int] = None,
+    def create(cls, path: Union[str, "os.PathLike[str]"], k: int = 256, target: Optional[int] = None, tolerance: Optional[int] = None,
                pages: Optional[int] = None, program: Optional[str] = None) -> Store:
         """Makes a store and opens it. A part of a document weighs at most k there."""
         words = [_store_word(path), "init", str(k)]
         for number, value, usual in ((1, target, 50), (2, tolerance, k // 4), (3, pages, 16777216)):
             if any(later is not None for later in (target, tolerance, pages)[number - 1:]):
                 words.append(str(usual if value is None else value))
-        done = subprocess.run([_find_natix(program), *words], stdin=subprocess.DEVNULL, stdout=subprocess.PIPE, stderr=subprocess.PIPE)
+        done = subprocess.run([find_natix(program), *words], stdin=subprocess.DEVNULL, stdout=subprocess.PIPE, stderr=subprocess.PIPE)
         if done.returncode == 2:
             raise Refused(_text(done.stdout).strip().partition(" ")[2], " ".join(words))
         if done.returncode:
-            raise Ended(done.returncode, _text(done.stderr).strip(), [], [" ".join(words)], 0, None)
+            why = natix_faults.explain(words[0]) if done.returncode == 3 else None
+            raise Ended(done.returncode, _text(done.stderr).strip(), [], [], 0, None, why)
         return cls(path, program)
 
     @classmethod
-    def open(cls, path: Union[str, "os.PathLike[str]"], program: Optional[str] = None) -> Store:
-        """Opens a store, or raises `Ended` where it is none, or another process has it."""
-        return cls(path, program)
+    def open(cls, path: Union[str, "os.PathLike[str]"], program: Optional[str] = None, wait: float = 0.0) -> Store:
+        """Opens a store, or raises `Ended` where it is none, or another process has it for so many seconds more."""
+        return cls(path, program, wait)
 
     def __enter__(self) -> Store:
         return self
@@ -578,10 +671,10 @@ class Store:
 
     def _wait(self) -> Tuple[int, str]:
         """Waits for the program's end: its status, and its line on standard error."""
-        said = cast(BinaryIO, self._process.stderr).read()
+        said = cast(IO[bytes], self._process.stderr).read()
         status = self._process.wait()
         for pipe in (self._process.stdin, self._process.stdout, self._process.stderr):
-            cast(BinaryIO, pipe).close()
+            cast(IO[bytes], pipe).close()
         return status, _text(said).strip()
 
     def ask(self, command: Command[Answer]) -> Answer:
@@ -595,13 +688,26 @@ class Store:
         """The answers to commands that are all sent without waiting for any. Where one is refused, the answer is a `Refused`,
         and the others are carried out."""
         asked = list(commands)
-        if cast(BinaryIO, self._process.stdin).closed:
+        if cast(IO[bytes], self._process.stdin).closed:
             raise ValueError("this store is closed")
+        if self._gathered is not None:
+            return [self._gather(command) for command in asked]
+        return self._send(asked)
+
+    def _gather(self, command: Command[Any]) -> Any:
+        """Keeps a change for the end of a transaction, and asks what is no change."""
+        gathered = cast(Gathered, self._gathered)
+        if command.changes:
+            return gathered.take(command)
+        gathered.check(command)
+        return self._send([command])[0]
+
+    def _send(self, asked: List[Command[Any]]) -> List[Any]:
         answers: List[Any] = []
         try:
             self._exchange(asked, answers)
         except BaseException:  # replies that nobody reads must not be taken for those of a later command
-            if not cast(BinaryIO, self._process.stdin).closed:
+            if not cast(IO[bytes], self._process.stdin).closed:
                 self._process.kill()
                 self._wait()
             raise
@@ -610,7 +716,7 @@ class Store:
     def _exchange(self, asked: List[Command[Any]], answers: List[Any]) -> None:
         """Writes commands and reads replies, whichever can be done."""
         source = memoryview(b"".join(part for command in asked for part in (command.line, b"\n", command.body)))
-        stdin, stdout = cast(BinaryIO, self._process.stdin).fileno(), cast(BinaryIO, self._process.stdout).fileno()
+        stdin, stdout = cast(IO[bytes], self._process.stdin).fileno(), cast(IO[bytes], self._process.stdout).fileno()
         poll = select.poll()
         poll.register(stdout, select.POLLIN)
         poll.register(stdin, select.POLLOUT)
@@ -640,7 +746,7 @@ class Store:
             command = asked[len(answers)]
             lines.append(line)
             if line.startswith(b"error ") and len(lines) == 1:
-                answers.append(Refused(_text(line[6:]), repr(command)))
+                answers.append(command.refused(_text(line[6:])))
             elif not command.has_lines:
                 answers.append(command.read(lines))
             elif line == b".":
@@ -658,9 +764,144 @@ class Store:
         uncertain = next((repr(command) for command in left if command.changes), None)
         raise Ended(status, said, [(repr(command), answer) for command, answer in zip(asked, answers)], [repr(command) for command in left], self._answered, uncertain)
 
-    def load(self, name: str, source: Source) -> Loaded:
-        """Keeps a document under a new name: a string or bytes of XML, a path or an open file of XML, an ElementTree, or PYX."""
-        return self.ask(load(name, source))
+    @contextlib.contextmanager
+    def transaction(self) -> Iterator[Gathered]:
+        """Gathers the changes that are made within, and carries them out as one at its end: all of them, or where one is refused none,
+        and then `Refused` is raised with its number. Where the block is left by an exception nothing is sent.
+
+        Within it a change answers None; what it was answered stands in `answers` of what this gives, behind the end. A question is asked at
+        once, and refused by ValueError where a change before it is about the same document: the store knows nothing of that yet. A
+        transaction within another one is part of that."""
+        outer = self._gathered
+        gathered = outer if outer is not None else Gathered(lambda: self._send([names()])[0])
+        before = len(gathered.commands)
+        self._gathered = gathered
+        try:
+            yield gathered
+        except BaseException:
+            del gathered.commands[before:]
+            raise
+        finally:
+            self._gathered = outer
+        if outer is None and gathered.commands:
+            gathered.answers = self.ask(Transaction(gathered.commands))
+
+    def load(self, name: str, source: Source, keep: bool = False) -> Loaded:
+        """Keeps a document under a new name: a string or bytes of XML, a path or an open file of XML, an ElementTree, or PYX.
+
+        Comments and the document type are left out, which `Loaded` says. With `keep` they become instructions, of which
+        `export` makes what they were."""
+        return self.ask(load(name, source, keep))
+
+    def put(self, name: str, source: Source, keep: bool = False) -> Loaded:
+        """Keeps a document, in place of the one of that name where there is one: where the new one is refused, that stays."""
+        new = load(name, source, keep)
+        with self.transaction() as done:
+            if done.has(name):
+                self.drop(name)
+            self.ask(new)
+        return cast(Loaded, done.answers[-1] if done.answers else None)
+
+    def recover(self) -> Dict[str, bool]:
+        """Ends what an earlier version of this module began: it kept a new document under a name of its own, `~natix-new~` and the
+        document's, before it took the place of the old one. Says of each name whether it has the new document."""
+        kept, ended = self.names(), {}
+        for waiting in kept:
+            name = waiting[len(REPLACEMENT):]
+            if not waiting.startswith(REPLACEMENT) or not name:
+                continue
+            ended[name] = name not in kept or self.export(name, Pyx) == self.export(waiting, Pyx)
+            if name in kept:
+                self.drop(waiting)
+            else:
+                self.rename(waiting, name)
+        return ended
+
+    # Subtrees, each of which takes several commands and is one transaction
+
+    def subtree(self, name: str, path: Sequence[int]) -> Pyx:
+        """The lines of the node at the path with all below it; those of the whole document for its root."""
+        if not path:
+            return self.ask(export(name))
+        here = tuple(path)
+        found = {here: self.get(name, here)}
+        level = [here]
+        while level:
+            below = [(*above, at) for above in level for at in range(found[above].children)]
+            if len(found) + len(below) > MOST_ASKED:
+                return self._cut_out(name, here)
+            for one, node in zip(below, self.ask_all([get(name, one) for one in below])):
+                if isinstance(node, Refused):
+                    raise node
+                found[one] = node
+            level = [one for one in below if found[one].children]
+        lines: List[bytes] = []
+        _add_lines(found, here, lines)
+        return Pyx(b"".join(line + b"\n" for line in lines))
+
+    def _cut_out(self, name: str, path: Path) -> Pyx:
+        """The same out of all lines of the document."""
+        lines: List[bytes] = []
+        taker = natix_subtrees.Subtrees([path], lambda _, line: lines.append(_bytes(line)))
+        taker.write(self.ask(export(name)))
+        if taker.error:
+            raise taker.error
+        return Pyx(b"".join(line + b"\n" for line in lines))
+
+    def graft(self, name: str, path: Sequence[int], source: Union[Source, Node], keep: bool = False) -> int:
+        """Puts nodes with all below them at the path, beside each other, and says how many nodes that were. A string or bytes have
+        any XML that an element can have, as `<a/>text<b/>`; any other source is a document, whose nodes at its top are put there; or it is a `Node`."""
+        lines = _fragment(source, keep)
+        with self.transaction():
+            self.ask_all(graft(name, path, lines))
+        return natix_subtrees.count_nodes(lines)
+
+    def replace(self, name: str, path: Sequence[int], source: Union[Source, Node], keep: bool = False) -> int:
+        """Puts nodes, as of `graft`, in place of the node at the path and all below it."""
+        lines = _fragment(source, keep)
+        with self.transaction():
+            self._replace(name, tuple(path), lines)
+        return natix_subtrees.count_nodes(lines)
+
+    def _replace(self, name: str, path: Path, lines: bytes) -> None:
+        if len(path) == 1 and self.get(name, path).kind == "element":
+            self._put(name, natix_subtrees.with_root(self.ask(export(name)), lines))  # a document always has its root element
+        elif not path:
+            self._put(name, lines)
+        else:
+            self.ask_all([delete(name, path), *graft(name, path, lines)])
+
+    def _put(self, name: str, lines: bytes) -> None:
+        self.ask_all([drop(name), load(name, Pyx(lines))])
+
+    def relabel(self, name: str, path: Sequence[int], label: str) -> None:
+        """Gives an element, an attribute or an instruction another name."""
+        lines = natix_subtrees.relabelled(self.subtree(name, path), _word(label))
+        with self.transaction():
+            self._replace(name, tuple(path), lines)
+
+    def move(self, name: str, path: Sequence[int], to: Sequence[int], other: Optional[str] = None) -> Path:
+        """Takes the node at a path with all below it to another place, of the same document or of another one: before the node that is at `to` now,
+        or behind the last one. Says which path it has then."""
+        place = tuple(to) if other not in (None, name) else natix_subtrees.without(to, path)
+        if other in (None, name) and natix_subtrees.is_below(to, path):
+            raise ValueError(f"{tuple(to)} is below {tuple(path)}, and a node can't stand below itself")
+        lines = self._subtree_of_node(name, path)
+        with self.transaction():
+            self.ask_all([delete(name, path), *graft(other or name, place, lines)])
+        return place
+
+    def copy(self, name: str, path: Sequence[int], to: Sequence[int], other: Optional[str] = None) -> Path:
+        """Puts what stands at a path, with all below it, to another place once more, of the same document or of another one."""
+        lines = self._subtree_of_node(name, path)
+        with self.transaction():
+            self.ask_all(graft(other or name, to, lines))
+        return tuple(to)
+
+    def _subtree_of_node(self, name: str, path: Sequence[int]) -> Pyx:
+        if not path:
+            raise ValueError("a document's root is no node that can stand elsewhere: its name can be another one, and `load` copies it")
+        return self.subtree(name, path)
 
     @overload
     def export(self, name: str) -> str: ...
@@ -677,7 +918,7 @@ class Store:
         lines = self.ask(export(name))
         if to is Pyx:
             return lines
-        xml = _convert("out", bytes(lines))
+        xml = xml_of(bytes(lines))
         if to is str:
             return xml.decode()
         if to is bytes:
@@ -693,6 +934,10 @@ class Store:
     def drop(self, name: str) -> None:
         """Forgets a document."""
         self.ask(drop(name))
+
+    def rename(self, old: str, new: str) -> None:
+        """Gives a document another name, which is new."""
+        self.ask(rename(old, new))
 
     def names(self) -> Dict[str, int]:
         """The documents, each with its number of nodes."""
@@ -739,35 +984,30 @@ class Store:
         return verify(self.export(name, Pyx), claimed, k)
 
 
+def _fragment(source: Union[Source, Node], keep: bool) -> Pyx:
+    """The lines of what is to stand at a path."""
+    if isinstance(source, Node):
+        line = _node_line(source)
+        return Pyx(line + b"\n" + (b")" + line[1:] + b"\n" if source.kind == "element" else b""))
+    lines = natix_subtrees.fragment(source, keep)
+    if not lines.strip():
+        raise ValueError("there is no node in what is to be put there")
+    return lines
+
+
+def _add_lines(nodes: Dict[Path, Node], path: Path, lines: List[bytes]) -> None:
+    """Adds the lines of the node at a path, and of all below it."""
+    node = nodes[path]
+    lines.append(_node_line(node))
+    for at in range(node.children):
+        _add_lines(nodes, (*path, at), lines)
+    if node.kind == "element":
+        lines.append(b")" + _bytes(node.name))
+
+
 def _store_word(path: Union[str, "os.PathLike[str]"]) -> str:
+    """A store's name as natix takes it. A link names what it leads to, whose log stands beside that."""
     word = os.fspath(path)
+    if os.path.islink(word):
+        return os.path.realpath(word)
     return os.path.join(".", word) if word.startswith("-") or word == "_" else word
-
-
-@contextlib.contextmanager
-def new_file(path: Union[str, "os.PathLike[str]"]) -> Iterator[BinaryIO]:
-    """An open file that is put there once the block ends well, whole, with the rights of the one before it; else nothing is
-    changed. What is no ordinary file, as a terminal, is written at once."""
-    path = os.path.realpath(path)
-    if os.path.exists(path) and not os.path.isfile(path):
-        with open(path, "wb") as file:
-            yield cast(BinaryIO, file)
-        return
-    handle, name = tempfile.mkstemp(dir=os.path.dirname(path), prefix=os.path.basename(path)[:100])
-    try:
-        with os.fdopen(handle, "wb") as file:
-            yield cast(BinaryIO, file)
-            file.flush()
-            os.fchmod(file.fileno(), os.stat(path).st_mode & 0o777 if os.path.exists(path) else 0o666 & ~_mask())
-            os.fsync(file.fileno())
-        os.replace(name, path)
-    except BaseException:
-        os.unlink(name)
-        raise
-
-
-def _mask() -> int:
-    """The rights that new files don't have."""
-    mask = os.umask(0o077)
-    os.umask(mask)
-    return mask

@@ -4,13 +4,13 @@
     >>> folder = tempfile.mkdtemp()
     >>> with open(os.path.join(folder, "tea.xml"), "w") as file:
     ...     _ = file.write("<shop><item>tea</item></shop>")
-    >>> with natix.Store.memory() as store:
+    >>> with natix.Store.create(os.path.join(folder, "shelf")) as store:
     ...     files = natix_files.Files(store)
     ...     with open(os.path.join(folder, "tea.xml"), "rb") as file:
     ...         files.copy_in("tea", file)
     ...     with natix.new_file(os.path.join(folder, "again.xml")) as file:
     ...         files.copy_out("tea", file)
-    Loaded(nodes=4, intervals=0)
+    Loaded(nodes=4, intervals=1)
     >>> open(os.path.join(folder, "again.xml")).read()
     '<shop><item>tea</item></shop>\\n'
 """
@@ -23,9 +23,10 @@ import select
 import subprocess
 import tempfile
 import time
-from typing import Any, BinaryIO, Callable, List, Optional, Tuple, cast
+from typing import IO, Any, Callable, List, Optional, Tuple, cast
 
 import natix
+import natix_sources
 
 BLOCK = 65536
 Watch = Callable[[int, int], Any]
@@ -38,7 +39,7 @@ class Stopped(natix.Error):
 class Watched:
     """Tells a watcher how far a document is."""
 
-    def __init__(self, watch: Optional[Watch], file: BinaryIO) -> None:
+    def __init__(self, watch: Optional[Watch], file: Optional[IO[bytes]]) -> None:
         self.watch, self.file = watch, file
         self.bytes = self.nodes = 0
         self.last, self.next = b"\n", time.monotonic() + 0.1
@@ -58,7 +59,7 @@ class Watched:
     def place(self) -> int:
         """How far the file was read or written, by whichever process; where it has no places, the bytes of PYX."""
         try:
-            return os.lseek(self.file.fileno(), 0, os.SEEK_CUR)
+            return os.lseek(cast(IO[bytes], self.file).fileno(), 0, os.SEEK_CUR)
         except OSError:
             return self.bytes
 
@@ -66,9 +67,10 @@ class Watched:
 class Through:
     """A file of PYX that goes to the program, or comes from it, as it is."""
 
-    def __init__(self, file: BinaryIO) -> None:
+    def __init__(self, file: IO[bytes]) -> None:
         self.file = file
         self.stopped = False
+        self.left_out: Tuple[str, ...] = ()  # of the XML
         self.error: Optional[Exception] = None  # why the document isn't whole
 
     def __enter__(self) -> Through:
@@ -109,12 +111,13 @@ class Through:
 class Maker(Through):
     """A file of XML, with xmlpyx between it and the program."""
 
-    def __init__(self, direction: str, file: BinaryIO) -> None:
+    def __init__(self, words: List[str], file: IO[bytes]) -> None:
         self.said = tempfile.TemporaryFile()
         pipe = subprocess.PIPE
-        source, target = (file, pipe) if direction == "in" else (pipe, file)
-        self.process = subprocess.Popen([*natix._find_xmlpyx(), direction], stdin=source, stdout=target, stderr=self.said, bufsize=0, start_new_session=True)
-        super().__init__(cast(BinaryIO, self.process.stdout or self.process.stdin))
+        source: Any = file if words[-1] == "in" else pipe
+        target: Any = pipe if words[-1] == "in" else file
+        self.process = subprocess.Popen(words, stdin=source, stdout=target, stderr=self.said, bufsize=0, start_new_session=True)
+        super().__init__(cast(IO[bytes], self.process.stdout or self.process.stdin))
 
     def __exit__(self, *error: object) -> None:
         self.process.kill()
@@ -142,7 +145,9 @@ class Maker(Through):
         super().check()
         status = self.end()
         self.said.seek(0)
-        natix._check_xmlpyx(status, self.said.read())
+        said = self.said.read()
+        natix_sources.check_xmlpyx(status, said)
+        self.left_out = natix_sources.left_out_of(said)
 
 
 class Files:
@@ -151,28 +156,46 @@ class Files:
 
     def __init__(self, store: natix.Store) -> None:
         self.store = store
+        self.lines: List[bytes] = []  # of a reply that goes on
 
-    def copy_in(self, name: str, source: BinaryIO, watch: Optional[Watch] = None, form: str = "xml") -> natix.Loaded:
-        """Keeps the document of an open file under a new name, in little memory however large it is. `form` is `xml` or `pyx`.
+    def copy_in(self, name: str, source: IO[bytes], watch: Optional[Watch] = None, form: str = "xml", keep: bool = False) -> natix.Loaded:
+        """Keeps the document of an open file under a new name, in little memory however large it is. `form` is `xml` or `pyx`;
+        `keep` keeps comments and the document type.
 
         `watch` is called about ten times a second, with how many bytes of the file and how many nodes went in. Where it answers
         true, `Stopped` is raised, and nothing is kept."""
-        command = natix.load(name, natix.Pyx(b""))
-        command.changes = False  # as long as its last line isn't sent
-        with Maker("in", source) if form == "xml" else Through(source) as maker:
+        return cast(natix.Loaded, self.take_in(natix.load(name, natix.Pyx(b"")), source, watch, form, keep))
+
+    def put(self, name: str, source: IO[bytes], watch: Optional[Watch] = None, form: str = "xml", keep: bool = False) -> natix.Loaded:
+        """Keeps the document of an open file in place of the one of that name, by one transaction: where it is refused or stopped, that one stays."""
+        changes = natix.Transaction([natix.drop(name), natix.load(name, natix.Pyx(b""))])
+        return cast(natix.Loaded, self.take_in(changes, source, watch, form, keep))
+
+    def take_in(self, command: natix.Command[Any], source: IO[bytes], watch: Optional[Watch], form: str, keep: bool) -> Any:
+        """Sends a command whose last document is an open file's, and gives what that was answered."""
+        changes, command.changes = command.changes, False  # as long as its last line isn't sent
+        with Maker(natix_sources.into_words(keep), source) if form == "xml" else Through(source) as maker:
             watched = Watched(watch, source)
-            answer = self.guarded(lambda: self.pour_in(command, maker, watched))
+            answer = self.guarded(lambda: self.pour_in(command, maker, watched, changes))
             if maker.stopped and maker.error is None:
                 raise Stopped(f"`{command!r}` was stopped")
             maker.check()
         if isinstance(answer, natix.Refused):
             raise answer
-        return cast(natix.Loaded, answer)
+        loaded = answer[-1] if isinstance(command, natix.Transaction) else answer
+        return loaded._replace(left_out=maker.left_out)
 
-    def copy_out(self, name: str, target: BinaryIO, watch: Optional[Watch] = None, form: str = "xml") -> None:
+    def copy(self, name: str, other: str) -> natix.Loaded:
+        """Keeps a document under a second name, which is new."""
+        with tempfile.TemporaryFile() as file:
+            self.copy_out(name, file, form="pyx")
+            file.seek(0)
+            return self.copy_in(other, file, form="pyx")
+
+    def copy_out(self, name: str, target: IO[bytes], watch: Optional[Watch] = None, form: str = "xml") -> None:
         """Writes a document to an open file, in little memory however large it is. `form` and `watch` are those of `copy_in`."""
         command = natix.export(name)
-        with Maker("out", target) if form == "xml" else Through(target) as maker:
+        with Maker([*natix_sources.find_xmlpyx(), "out"], target) if form == "xml" else Through(target) as maker:
             watched = Watched(watch, target)
             refused, stopped = self.guarded(lambda: self.pour_out(command, maker, watched))
             if refused is not None:
@@ -181,23 +204,33 @@ class Files:
                 raise Stopped(f"`{command!r}` was stopped")
             maker.check()
 
+    def pour(self, name: str, taker: Any) -> None:
+        """Hands a document's lines to `taker.write`, in blocks as they come, until `taker.stopped`: the others are read in vain."""
+        refused, _ = self.guarded(lambda: self.pour_out(natix.export(name), taker, Watched(None, None)))
+        if refused is not None:
+            raise refused
+
     def guarded(self, exchange: Callable[[], Any]) -> Any:
         """An exchange, and where it breaks off the end of the program: replies that nobody reads must not be taken for those of
         a later command."""
-        if cast(BinaryIO, self.store._process.stdin).closed:
+        if cast(IO[bytes], self.store._process.stdin).closed:
             raise ValueError("this store is closed")
+        if self.store._gathered is not None:
+            raise ValueError("a file goes in or out by itself, and not within a transaction")
+        self.lines = []
         try:
             return exchange()
         except BaseException:
-            if not cast(BinaryIO, self.store._process.stdin).closed:
+            if not cast(IO[bytes], self.store._process.stdin).closed:
                 self.store._process.kill()
                 self.store._wait()
             raise
 
-    def pour_in(self, command: natix.Command[natix.Loaded], maker: Through, watched: Watched) -> Any:
-        """Sends a `load` as its lines come, and gives what it is answered."""
+    def pour_in(self, command: natix.Command[Any], maker: Through, watched: Watched, changes: bool) -> Any:
+        """Sends a `load`, or a transaction that ends with one, as the document's lines come, and gives what it is answered."""
         answers: List[Any] = []
-        self.send(command.line + b"\n", command, answers)
+        begin, _, end = (command.line + b"\n" + command.body).rpartition(b".\n")
+        self.send(begin, command, answers)
         rest, block = b"", b"-"
         while block and not maker.stopped:
             block = maker.read()
@@ -210,10 +243,10 @@ class Files:
             else:
                 self.send(lines, command, answers)
         if maker.stopped or not maker.is_whole():
-            self.send(b"\n\n.\n", command, answers)  # no document has an empty line
+            self.send(b"\n\n.\n" + end, command, answers)  # no document has an empty line
         else:
-            command.changes = True
-            self.send(b"\n.\n" if rest else b".\n", command, answers)
+            command.changes = changes
+            self.send((b"\n.\n" if rest else b".\n") + end, command, answers)
         while not answers:
             watched.asks_to_stop(b"")
             self.take_block(command, answers)
@@ -223,7 +256,7 @@ class Files:
         """Writes to the program while it answers nothing but its end."""
         source = memoryview(data)
         poll = select.poll()
-        stdin = cast(BinaryIO, self.store._process.stdin).fileno()
+        stdin = cast(IO[bytes], self.store._process.stdin).fileno()
         poll.register(stdin, select.POLLOUT)
         while source and not answers:
             poll.poll()
@@ -234,20 +267,20 @@ class Files:
                     self.take_block(command, answers)
 
     def take_block(self, command: natix.Command[Any], answers: List[Any]) -> None:
-        """Takes what comes within a tenth of a second of a reply of one line."""
+        """Takes what comes of a reply within a tenth of a second."""
         poll = select.poll()
-        stdout = cast(BinaryIO, self.store._process.stdout).fileno()
+        stdout = cast(IO[bytes], self.store._process.stdout).fileno()
         poll.register(stdout, select.POLLIN)
         if poll.poll(100):
             block = os.read(stdout, BLOCK)
             if not block:
                 self.store._end([command], answers)
-            self.store._take(block, [], [command], answers)
+            self.lines = self.store._take(block, self.lines, [command], answers)
 
-    def pour_out(self, command: natix.Command[natix.Pyx], maker: Through, watched: Watched) -> Tuple[Optional[natix.Refused], bool]:
+    def pour_out(self, command: natix.Command[natix.Pyx], maker: Any, watched: Watched) -> Tuple[Optional[natix.Refused], bool]:
         """Hands a document's lines on as they come. All are read, also where nobody wants more."""
         self.send(command.line + b"\n", command, [])
-        stdout = cast(BinaryIO, self.store._process.stdout).fileno()
+        stdout = cast(IO[bytes], self.store._process.stdout).fileno()
         poll = select.poll()
         poll.register(stdout, select.POLLIN)
         rest, begun, stopped = b"", False, False  # what may be of the dot, and whether a line was handed on

@@ -21,7 +21,11 @@ struct entity {
 
 static struct {
     XML_Parser parser;
-    bool verbose, in_document_type;
+    bool verbose, keep, in_document_type;
+    bool in_head;              /* a document type that is kept may still come */
+    struct bytes head;         /* the input as long as that is so */
+    struct bytes document_type; /* what stands in it before its declarations */
+    long declarations;         /* where they begin in the input, -1 where there are none */
     bool unread; /* there are declarations that aren't read */
     enum coding coding;
     const int *characters;     /* of single bytes */
@@ -105,6 +109,12 @@ static void end_text(void)
 {
     if (in.text.length)
         put_text(in.text.length);
+}
+
+static void end_head(void)
+{
+    in.in_head = false;
+    in.head.length = 0;
 }
 
 static void put_line(char code, const char *name, const char *content)
@@ -212,9 +222,9 @@ static void check_entity(const char *name, size_t length)
     }
 }
 
-/* Tags with references */
+/* Bytes of the input as UTF-8 */
 
-/* UTF-16 as UTF-8. */
+/* Of UTF-16. */
 static void append_wide(struct bytes *text, const char *context, size_t size)
 {
     const unsigned char *at = (const unsigned char *)context;
@@ -228,6 +238,21 @@ static void append_wide(struct bytes *text, const char *context, size_t size)
         lead = unit >= 0xd800 && unit < 0xdc00 ? unit : 0;
     }
 }
+
+/* Of characters that begin with a byte of their own. */
+static void append_narrow(struct bytes *text, const char *data, size_t length)
+{
+    if (in.coding != LATIN_1 && in.coding != SINGLE_BYTES) {
+        append(text, data, length);
+        return;
+    }
+    for (size_t i = 0; i < length; i++) {
+        unsigned char byte = (unsigned char)data[i];
+        append_character(text, in.coding == LATIN_1 ? byte : (uint32_t)in.characters[byte]);
+    }
+}
+
+/* Tags with references */
 
 /* The end of the tag at the beginning of a text, NULL where there is no whole tag. */
 static const char *end_of_tag(const char *at, const char *end)
@@ -262,15 +287,8 @@ static const char *narrow_tag(const char **at, const char **end)
 /* Looks at the entity of a name as the tag has it. */
 static void check_raw_entity(const char *name, size_t length)
 {
-    if (in.coding != LATIN_1 && in.coding != SINGLE_BYTES) {
-        check_entity(name, length);
-        return;
-    }
     struct bytes text = {0};
-    for (size_t i = 0; i < length; i++) {
-        unsigned char byte = (unsigned char)name[i];
-        append_character(&text, in.coding == LATIN_1 ? byte : (uint32_t)in.characters[byte]);
-    }
+    append_narrow(&text, name, length);
     check_entity(text.data, text.length);
     free(text.data);
 }
@@ -323,6 +341,8 @@ static void start_element(void *data, const XML_Char *name, const XML_Char **att
     for (; *attributes; attributes += 2)
         put_line('A', attributes[0], attributes[1]);
     in.depth++;
+    if (in.in_head)
+        end_head();
 }
 
 static void end_element(void *data, const XML_Char *name)
@@ -335,14 +355,23 @@ static void end_element(void *data, const XML_Char *name)
     put_line(')', name, NULL);
 }
 
+static void put_instruction(const char *name, const char *content)
+{
+    end_text();
+    put_line('?', name, *content ? content : NULL);
+}
+
 static void take_instruction(void *data, const XML_Char *name, const XML_Char *content)
 {
     (void)data;
     take_text();
-    if (!in.in_document_type) {
-        end_text();
-        put_line('?', name, *content ? content : NULL);
-    }
+    if (in.in_document_type)
+        return;
+    bool is_comment = strcmp(name, COMMENT) == 0;
+    if (is_comment || strcmp(name, DOCUMENT_TYPE) == 0)
+        end_run(REFUSED, PLACE "an instruction %s, which is how a %s is kept", line_number(), column_number(), name,
+                is_comment ? "comment" : "document type");
+    put_instruction(name, content);
 }
 
 static void take_declaration(void *data, const XML_Char *version, const XML_Char *encoding, int standalone)
@@ -357,17 +386,65 @@ static void take_declaration(void *data, const XML_Char *version, const XML_Char
 
 static void take_comment(void *data, const XML_Char *text)
 {
-    (void)data, (void)text;
+    (void)data;
     take_text();
-    in.comments++;
+    if (in.in_document_type)
+        return;
+    if (in.keep)
+        put_instruction(COMMENT, text);
+    else
+        in.comments++;
+}
+
+/* What stands in a document type before its declarations. */
+static void name_document_type(const char *name, const char *system, const char *public)
+{
+    append_text(&in.document_type, name);
+    if (public) {
+        append_text(&in.document_type, " PUBLIC \"");
+        append_text(&in.document_type, public);
+        append_text(&in.document_type, "\"");
+    } else if (system) {
+        append_text(&in.document_type, " SYSTEM");
+    }
+    if (system) {
+        const char *quote = strchr(system, '"') ? "'" : "\"";
+        append_text(&in.document_type, " ");
+        append_text(&in.document_type, quote);
+        append_text(&in.document_type, system);
+        append_text(&in.document_type, quote);
+    }
 }
 
 static void start_document_type(void *data, const XML_Char *name, const XML_Char *system, const XML_Char *public, int has_subset)
 {
-    (void)data, (void)system, (void)public, (void)has_subset;
+    (void)data;
     take_text();
-    note("document type ", name, "");
     in.in_document_type = true;
+    if (!in.keep) {
+        note("document type ", name, "");
+        return;
+    }
+    name_document_type(name, system, public);
+    in.declarations = has_subset ? XML_GetCurrentByteIndex(in.parser) : -1;
+}
+
+/* Appends the declarations of the document type, as they stand there up to a place of the input. */
+static void append_declarations(size_t end)
+{
+    struct bytes text = {0};
+    size_t start = (size_t)in.declarations;
+    bool is_wide = in.coding == UTF_16_LITTLE || in.coding == UTF_16_BIG;
+    (is_wide ? append_wide : append_narrow)(&text, in.head.data + start, end - start);
+    while (text.length && is_space(text.data[text.length - 1]))
+        text.length--;
+    append_text(&in.document_type, " ");
+    for (size_t i = 0; i < text.length; i++) {
+        bool is_pair = text.data[i] == '\r' && i + 1 < text.length && text.data[i + 1] == '\n';
+        if (!is_pair)
+            append(&in.document_type, text.data[i] == '\r' ? "\n" : text.data + i, 1);
+    }
+    free(text.data);
 }
 
 static void end_document_type(void *data)
@@ -375,6 +452,13 @@ static void end_document_type(void *data)
     (void)data;
     take_text();
     in.in_document_type = false;
+    if (!in.keep)
+        return;
+    if (in.declarations >= 0)
+        append_declarations((size_t)XML_GetCurrentByteIndex(in.parser));
+    append(&in.document_type, "", 1);
+    put_instruction(DOCUMENT_TYPE, in.document_type.data);
+    end_head();
 }
 
 static void take_entity(void *data, const XML_Char *name, int is_parameter, const XML_Char *value, int length,
@@ -437,7 +521,7 @@ static void set_handlers(void)
     XML_SetUnknownEncodingHandler(parser, know_encoding, NULL);
     XML_SetParamEntityParsing(parser, XML_PARAM_ENTITY_PARSING_ALWAYS);
     XML_SetXmlDeclHandler(parser, take_declaration);
-    if (in.verbose)
+    if (in.verbose || in.keep)
         XML_SetCommentHandler(parser, take_comment);
 }
 
@@ -470,9 +554,10 @@ static void tell_notes(void)
         tell("left out: %zu comment%s", in.comments, in.comments > 1 ? "s" : "");
 }
 
-void bring_in(bool verbose)
+void bring_in(bool verbose, bool keep)
 {
     in.verbose = verbose;
+    in.keep = in.in_head = keep;
     in.parser = XML_ParserCreate(NULL);
     if (in.parser == NULL)
         end_without_memory();
@@ -485,6 +570,8 @@ void bring_in(bool verbose)
         got = read_block(block, BLOCK);
         if (first)
             in.coding = coding_of(block, got);
+        if (in.in_head)
+            append(&in.head, block, got);
         if (XML_ParseBuffer(in.parser, (int)got, got == 0) != XML_STATUS_OK)
             refuse_input();
         take_text();

@@ -8,12 +8,14 @@
 static const char help[] =
     "Turns XML into PYX lines that natix reads, and such lines into XML.\n"
     "\n"
-    "    xmlpyx [-v] in  < FILE.xml > FILE.pyx\n"
-    "    xmlpyx [-v] out < FILE.pyx > FILE.xml\n"
+    "    xmlpyx [-v] [--keep] in < FILE.xml > FILE.pyx\n"
+    "    xmlpyx out < FILE.pyx > FILE.xml\n"
     "\n"
     "`in` leaves out comments, the XML declaration and the document type; with -v it says on standard\n"
-    "error what it left out. It reads no other file: a reference to an entity that the document doesn't\n"
-    "declare itself ends it. `out` writes UTF-8.\n"
+    "error what it left out. With --keep a comment becomes an instruction natix:comment, and the document\n"
+    "type an instruction natix:doctype. `out` makes of these what they were, so `in` refuses a document\n"
+    "that has such instructions of its own. `in` reads no other file: a reference to an entity that the\n"
+    "document doesn't declare itself ends it. `out` writes UTF-8.\n"
     "\n"
     "Both work as the input comes. In memory stands a piece of at most one MiB of a text, and what expat\n"
     "takes at once: a tag, a comment or an instruction.\n"
@@ -24,29 +26,40 @@ static const char help[] =
     "Exit status: 0 all went well, 1 misuse, 2 the input is refused (standard error has the place),\n"
     "4 reading failed, 5 writing failed, 6 no memory.\n";
 
+_Noreturn static void misuse(void)
+{
+    end_run(MISUSE, "usage: xmlpyx [-v] [--keep] in < FILE.xml, or xmlpyx out < FILE.pyx; --help says more");
+}
+
 int main(int count, char **words)
 {
-    bool verbose = false;
-    const char *word = NULL;
-    int others = 0;
-    for (int i = 1; i < count; i++)
-        if (strcmp(words[i], "-v") == 0) {
-            verbose = true;
-        } else {
-            word = words[i];
-            others++;
-        }
+    bool verbose = false, keep = false;
+    const char *direction = NULL;
     signal(SIGPIPE, SIG_IGN);
     signal(SIGXFSZ, SIG_IGN);
-    if (others == 1 && (strcmp(word, "-h") == 0 || strcmp(word, "--help") == 0)) {
-        append_text(&output, help);
-        flush_output();
-    } else if (others == 1 && strcmp(word, "in") == 0) {
-        bring_in(verbose);
-    } else if (others == 1 && strcmp(word, "out") == 0) {
-        bring_out();
-    } else {
-        end_run(MISUSE, "usage: xmlpyx [-v] in|out < INPUT > OUTPUT");
+    for (int i = 1; i < count; i++) {
+        const char *word = words[i];
+        if (strcmp(word, "-h") == 0 || strcmp(word, "--help") == 0) {
+            append_text(&output, help);
+            flush_output();
+            return DONE;
+        } else if (strcmp(word, "-v") == 0) {
+            verbose = true;
+        } else if (strcmp(word, "--keep") == 0) {
+            keep = true;
+        } else if (direction == NULL && (strcmp(word, "in") == 0 || strcmp(word, "out") == 0)) {
+            direction = word;
+        } else {
+            misuse();
+        }
     }
+    if (direction == NULL)
+        misuse();
+    if (strcmp(direction, "in") == 0)
+        bring_in(verbose, keep);
+    else if (keep)
+        end_run(MISUSE, "--keep is for `in`: `out` makes comments and the document type of what was kept of them");
+    else
+        bring_out();
     return DONE;
 }

@@ -2,6 +2,7 @@
 
 #include "xmlpyx.h"
 
+#include <expat.h>
 #include <stdlib.h>
 #include <string.h>
 #include <strings.h>
@@ -19,7 +20,7 @@ static struct {
     struct bytes lengths;      /* their lengths */
     struct names attributes;   /* while a start tag is open: the names of its attributes so far */
     struct bytes content;      /* of an instruction, without its escapes */
-    bool in_tag, rooted;
+    bool in_tag, rooted, typed; /* the last two: the root element and the document type came */
 } out;
 
 static void fill_tables(void)
@@ -287,12 +288,92 @@ static void put_text(const char *content, size_t size)
     end_part();
 }
 
-static bool has_end_of_instruction(const struct bytes *content)
+static bool has_pair(const struct bytes *content, char first, char second)
 {
     for (size_t i = 0; i + 1 < content->length; i++)
-        if (content->data[i] == '?' && content->data[i + 1] == '>')
+        if (content->data[i] == first && content->data[i + 1] == second)
             return true;
     return false;
+}
+
+static bool has_byte(const struct bytes *content, char byte)
+{
+    return content->length && memchr(content->data, byte, content->length) != NULL;
+}
+
+/* Puts what stands between tags: a mark, what follows it, and what ends it. */
+static void put_markup(const char *begin, const struct bytes *content, const char *end)
+{
+    end_tag();
+    append_text(&output, begin);
+    append(&output, content->data, content->length);
+    put(end, strlen(end));
+    if (depth() == 0)
+        put("\n", 1);
+}
+
+static void put_comment(const struct bytes *content)
+{
+    if (has_pair(content, '-', '-') || has_byte(content, '\r') ||
+        (content->length && content->data[content->length - 1] == '-'))
+        refuse("a comment with --, with - at its end or with CR, which XML can't have");
+    put_markup("<!--", content, "-->");
+}
+
+/* Where the document type of a text ends, -1 where there is none. */
+struct type_end {
+    XML_Parser parser;
+    long at;
+};
+
+static void end_document_type(void *data)
+{
+    struct type_end *end = data;
+    end->at = XML_GetCurrentByteIndex(end->parser);
+}
+
+/* Whether this is what stands in one document type, and nothing beside it. */
+static bool is_document_type(const struct bytes *content)
+{
+    static const char begin[] = "<!DOCTYPE ", behind[] = "><a/>";
+    struct type_end end = {XML_ParserCreate("utf-8"), -1};
+    if (end.parser == NULL)
+        end_without_memory();
+    XML_SetUserData(end.parser, &end);
+    XML_SetEndDoctypeDeclHandler(end.parser, end_document_type);
+    bool is_good = XML_Parse(end.parser, begin, sizeof begin - 1, 0) == XML_STATUS_OK &&
+                   XML_Parse(end.parser, content->data, (int)content->length, 0) == XML_STATUS_OK &&
+                   XML_Parse(end.parser, behind, sizeof behind - 1, 1) == XML_STATUS_OK;
+    XML_ParserFree(end.parser);
+    return is_good && end.at == (long)(sizeof begin - 1 + content->length);
+}
+
+static void put_document_type(const struct bytes *content)
+{
+    if (out.rooted || out.typed)
+        refuse("a document type behind the root element or another document type");
+    if (!is_document_type(content))
+        refuse("what is kept of a document type is none");
+    out.typed = true;
+    put_markup("<!DOCTYPE ", content, ">");
+}
+
+static void put_plain_instruction(const char *name, size_t length, const struct bytes *content)
+{
+    if (length == 3 && strncasecmp(name, "xml", 3) == 0)
+        end_run(REFUSED, "line %llu: an instruction %s, which XML can't have", out.number, shown(name, length));
+    char first = content->length ? content->data[0] : 0;
+    if (has_pair(content, '?', '>') || has_byte(content, '\r') || first == ' ' || first == '\t' || first == '\n')
+        refuse("an instruction's content with ?>, with CR, or with a space, TAB or LF at its front, which XML can't have");
+    end_tag();
+    append(&output, "<?", 2);
+    append(&output, name, length);
+    put_markup(content->length ? " " : "", content, "?>");
+}
+
+static bool is_named(const char *name, size_t length, const char *other)
+{
+    return length == strlen(other) && memcmp(name, other, length) == 0;
 }
 
 static void put_instruction(const char *name, size_t length, const char *raw, size_t size)
@@ -301,22 +382,12 @@ static void put_instruction(const char *name, size_t length, const char *raw, si
     struct bytes *content = &out.content;
     content->length = 0;
     put_content(content, raw, size, no_quotes);
-    if (length == 3 && strncasecmp(name, "xml", 3) == 0)
-        end_run(REFUSED, "line %llu: an instruction %s, which XML can't have", out.number, shown(name, length));
-    char first = content->length ? content->data[0] : 0;
-    if (has_end_of_instruction(content) || (content->length && memchr(content->data, '\r', content->length)) ||
-        first == ' ' || first == '\t' || first == '\n')
-        refuse("an instruction's content with ?>, with CR, or with a space, TAB or LF at its front, which XML can't have");
-    end_tag();
-    append(&output, "<?", 2);
-    append(&output, name, length);
-    if (content->length) {
-        append(&output, " ", 1);
-        append(&output, content->data, content->length);
-    }
-    put("?>", 2);
-    if (depth() == 0)
-        put("\n", 1);
+    if (is_named(name, length, COMMENT))
+        put_comment(content);
+    else if (is_named(name, length, DOCUMENT_TYPE))
+        put_document_type(content);
+    else
+        put_plain_instruction(name, length, content);
 }
 
 static void take_line(const char *line, size_t length)

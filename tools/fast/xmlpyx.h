@@ -13,6 +13,10 @@ enum {
     BLOCK = 65536
 };
 
+/* The instructions that stand for a comment and for the document type. */
+#define COMMENT "natix:comment"
+#define DOCUMENT_TYPE "natix:doctype"
+
 enum status { DONE = 0, MISUSE = 1, REFUSED = 2, READ_FAULT = 4, WRITE_FAULT = 5, NO_MEMORY = 6 };
 
 /* Bytes that grow. */
@@ -67,7 +71,7 @@ static inline void end_part(void)
         flush_output();
 }
 
-void bring_in(bool verbose);
+void bring_in(bool verbose, bool keep);
 void bring_out(void);
 
 #endif

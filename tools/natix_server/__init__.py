@@ -1,0 +1,1 @@
+"""The server of documents: HTTP and WebDAV over one session of natix."""

@@ -1,0 +1,1 @@
+"""The shell for stores of natix, in parts: `natix-shell` puts them together."""
