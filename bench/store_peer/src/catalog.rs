@@ -11,7 +11,7 @@ pub struct Entry {
     pub nodes: u32,
 }
 
-#[derive(Default)]
+#[derive(Clone, Default)]
 pub struct Catalog {
     pub documents: BTreeMap<Vec<u8>, Entry>,
     pub rules: Rules,

@@ -49,7 +49,7 @@ fn label((kind, name): Named<'_>) -> Cow<'_, [u8]> {
 }
 
 /// The rules by the labels of parents, and then of children. None of them is `Free`.
-#[derive(Default)]
+#[derive(Clone, Default)]
 pub struct Rules {
     below: BTreeMap<Vec<u8>, BTreeMap<Vec<u8>, Asked>>,
 }

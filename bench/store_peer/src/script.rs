@@ -25,9 +25,19 @@ struct Load {
     refusal: Option<Refusal>,
 }
 
+/// A transaction whose lines come. Its commands are carried out as they come, and committed at its end.
+struct Together {
+    /// Whether nothing stands behind `begin`.
+    is_bare: bool,
+    commands: u64,
+    /// The number of the first command that was refused, and why.
+    refusal: Option<(u64, Vec<u8>)>,
+}
+
 struct Session<W> {
     store: Store,
     load: Option<Load>,
+    together: Option<Together>,
     /// The beginning of a line that goes on in the next piece.
     pending: Vec<u8>,
     replies: Vec<u8>,
@@ -75,6 +85,9 @@ impl<W: Write> Session<W> {
     }
 
     fn give(&mut self) -> Result<(), Failure> {
+        if self.together.is_some() {
+            return Ok(());
+        }
         let given = self.out.write_all(&self.replies);
         self.replies.clear();
         given.map_err(|_| Failure::Write)
@@ -85,8 +98,88 @@ impl<W: Write> Session<W> {
             let line = std::mem::take(&mut self.pending);
             self.line(&line)?;
         }
-        if self.load.take().is_some() {
+        let is_loading = self.load.take().is_some();
+        if self.together.take().is_some() {
+            self.store.roll_back();
+            self.replies.clear();
             self.error("syntax");
+        } else if is_loading {
+            self.error("syntax");
+        }
+        self.give()
+    }
+
+    /// Begins a transaction. Earlier replies are out before.
+    fn begin(&mut self, is_bare: bool) -> Result<(), Failure> {
+        self.give()?;
+        if is_bare {
+            self.store.begin()?;
+        }
+        self.together = Some(Together {
+            is_bare,
+            commands: 0,
+            refusal: None,
+        });
+        Ok(())
+    }
+
+    /// Carries out a command, which in a transaction is one of its own.
+    fn answer(
+        &mut self,
+        is_change: bool,
+        command: impl FnOnce(&mut Self) -> Reply,
+    ) -> Result<(), Failure> {
+        let mark = self.replies.len();
+        let number = match &mut self.together {
+            Some(together) => {
+                together.commands += 1;
+                if !together.is_bare || together.refusal.is_some() {
+                    return Ok(());
+                }
+                Some(together.commands)
+            }
+            None => None,
+        };
+        let answered = if number.is_some() && !is_change {
+            Err("syntax")
+        } else {
+            command(self)?
+        };
+        if let Err(word) = answered {
+            self.error(word);
+        }
+        if let (Some(number), Some(together)) = (number, &mut self.together)
+            && let Some(words) = self.replies[mark..].strip_prefix(b"error ")
+        {
+            together.refusal = Some((number, words.to_vec()));
+        }
+        Ok(())
+    }
+
+    /// Ends a transaction: all of it is kept, or nothing.
+    fn end(&mut self, together: Together) -> Result<(), Failure> {
+        match together {
+            Together { is_bare: false, .. } => {
+                self.store.roll_back();
+                self.error("syntax");
+            }
+            Together {
+                refusal: Some((number, words)),
+                ..
+            } => {
+                self.store.roll_back();
+                self.replies.clear();
+                write!(self.replies, "error at {number} ").expect("memory");
+                self.replies.extend_from_slice(&words);
+            }
+            Together { commands, .. } => {
+                if commands == 0 {
+                    self.store.roll_back();
+                } else {
+                    self.store.commit()?;
+                }
+                self.replies.extend_from_slice(b".\n");
+            }
         }
         self.give()
     }
@@ -96,7 +189,7 @@ impl<W: Write> Session<W> {
         if let Some(load) = &mut self.load {
             if stripped == b"." {
                 let load = self.load.take().expect("a load");
-                return self.loaded(load);
+                return self.answer(true, |session| session.loaded(load).map(Ok));
             }
             if load.refusal.is_none() {
                 load.refusal = load.reader.line(line).err();
@@ -114,9 +207,24 @@ impl<W: Write> Session<W> {
             });
             return Ok(());
         }
-        if let Err(word) = self.command(stripped)? {
-            self.error(word);
+        match stripped.strip_prefix(b"begin") {
+            _ if self.together.is_some() => {}
+            Some(rest) if matches!(rest.first(), None | Some(b' ')) => {
+                return self.begin(rest.is_empty());
+            }
+            _ => {}
         }
+        if stripped == b"commit"
+            && let Some(together) = self.together.take()
+        {
+            return self.end(together);
+        }
+        let word = field(stripped).map_or(stripped, |(word, _)| word);
+        let is_change = matches!(
+            word,
+            b"drop" | b"rename" | b"insert" | b"delete" | b"retext" | b"rule"
+        );
+        self.answer(is_change, |session| session.command(stripped))?;
         if self.replies.len() >= BLOCK {
             self.give()?;
         }
@@ -170,6 +278,7 @@ impl<W: Write> Session<W> {
         }
         match field(line) {
             Some((b"rule", rest)) => self.rule(rest),
+            Some((b"rename", rest)) => self.rename(rest),
             Some((word @ (b"get" | b"insert" | b"delete" | b"retext"), rest)) => {
                 self.at_place(word, rest)
             }
@@ -221,6 +330,21 @@ impl<W: Write> Session<W> {
         };
         self.give()?;
         let done = self.store.set_rule(parent, child, asked)?;
+        self.done(done)
+    }
+
+    fn rename(&mut self, rest: &[u8]) -> Reply {
+        let Some((old, new)) = field(rest).filter(|(old, new)| is_name(old) && is_name(new)) else {
+            return Ok(Err("syntax"));
+        };
+        let Some(entry) = self.store.entry(old) else {
+            return Ok(Err("no-document"));
+        };
+        if self.store.entry(new).is_some() {
+            return Ok(Err("exists"));
+        }
+        self.give()?;
+        let done = self.store.rename(old, entry, new)?;
         self.done(done)
     }
 
@@ -338,6 +462,7 @@ pub fn run(store: Store, input: impl Read, out: impl Write) -> Result<(), Failur
     let mut session = Session {
         store,
         load: None,
+        together: None,
         pending: Vec::new(),
         replies: Vec::new(),
         out,

@@ -17,6 +17,8 @@ const LONG_LOG: u64 = 67_108_864;
 pub struct Store {
     pub records: Records,
     pub catalog: Catalog,
+    /// Within a transaction the catalog before it. Nothing is committed until its end.
+    before: Option<Catalog>,
 }
 
 /// How many nodes a document has, and how many intervals.
@@ -30,6 +32,7 @@ impl Store {
         Ok(Store {
             records: Records::create(name, header)?,
             catalog: Catalog::default(),
+            before: None,
         })
     }
 
@@ -37,7 +40,11 @@ impl Store {
         let mut records = Records::open(name)?;
         let catalog = records.catalog()?;
         let catalog = Catalog::read(&catalog.bytes).ok_or(Failure::Damaged(0))?;
-        Ok(Store { records, catalog })
+        Ok(Store {
+            records,
+            catalog,
+            before: None,
+        })
     }
 
     pub fn entry(&self, name: &[u8]) -> Option<Entry> {
@@ -73,25 +80,50 @@ impl Store {
         }))
     }
 
+    /// Begins a transaction: what changes from here on is one commit.
+    pub fn begin(&mut self) -> Result<(), Failure> {
+        self.shorten_log()?;
+        self.before = Some(self.catalog.clone());
+        Ok(())
+    }
+
+    /// Ends a transaction with one commit, where it has changed anything.
+    pub fn commit(&mut self) -> Result<(), Failure> {
+        self.before = None;
+        self.records.commit()
+    }
+
+    /// Ends a transaction, and leaves the store as it was before it.
+    pub fn roll_back(&mut self) {
+        self.records.abandon();
+        if let Some(before) = self.before.take() {
+            self.catalog = before;
+        }
+    }
+
     fn shorten_log(&mut self) -> Result<(), Failure> {
-        if self.records.log_length() > LONG_LOG {
+        if self.before.is_none() && self.records.log_length() > LONG_LOG {
             self.records.checkpoint()?;
         }
         Ok(())
     }
 
-    /// Commits what was made, or drops it and says why it is refused.
+    /// Commits what was made, or drops it and says why it is refused. Within a transaction that is left to its end.
     fn end(&mut self, made: Result<(), Stop>) -> Result<Result<(), String>, Failure> {
         let refusal = match made {
             Ok(()) => {
-                self.records.commit()?;
+                if self.before.is_none() {
+                    self.records.commit()?;
+                }
                 return Ok(Ok(()));
             }
             Err(Stop::Refused(refusal)) => refusal,
             Err(Stop::Failure(Failure::Full)) => "full".to_string(),
             Err(Stop::Failure(failure)) => return Err(failure),
         };
-        self.records.abandon();
+        if self.before.is_none() {
+            self.records.abandon();
+        }
         Ok(Err(refusal))
     }
 
@@ -128,6 +160,25 @@ impl Store {
             self.records.set_catalog(&self.catalog.bytes())
         });
         self.end(made.map_err(Stop::from))
+    }
+
+    /// Gives the document of that name and entry another name, which is new.
+    pub fn rename(
+        &mut self,
+        name: &[u8],
+        entry: Entry,
+        new: &[u8],
+    ) -> Result<Result<(), String>, Failure> {
+        self.shorten_log()?;
+        self.catalog.documents.remove(name);
+        self.catalog.documents.insert(new.to_vec(), entry);
+        let made = self.records.set_catalog(&self.catalog.bytes());
+        let ended = self.end(made.map_err(Stop::from))?;
+        if ended.is_err() {
+            self.catalog.documents.remove(new);
+            self.catalog.documents.insert(name.to_vec(), entry);
+        }
+        Ok(ended)
     }
 
     /// Makes a rule, by one commit.

@@ -52,6 +52,8 @@ use std::process::ExitCode;
 use std::thread;
 
 const BATCH: usize = 1_024;
+/// The bytes of a line that is part of no document.
+const LINE_LIMIT: usize = 4_194_304;
 
 /// The lines of some commands, one behind the other, and where each ends.
 #[derive(Default)]
@@ -68,14 +70,16 @@ impl Batch {
         line.strip_suffix(b"\r").unwrap_or(line)
     }
 
-    /// Takes the next commands. The lines of a document are left out, since a `load` is no question.
+    /// Takes the next commands. The lines of a document and of a transaction are left out, since these are no questions.
     fn fill(&mut self, input: &mut impl BufRead) -> Result<(), Failure> {
         self.lines.clear();
         self.ends.clear();
         while self.ends.len() < BATCH && self.add(input)? {
             let line = self.line(self.ends.len() - 1);
-            if line == b"load" || line.starts_with(b"load ") {
+            if is_load(line) {
                 skip_body(input)?;
+            } else if line.len() <= LINE_LIMIT && (line == b"begin" || line.starts_with(b"begin ")) {
+                skip_transaction(input)?;
             }
         }
         Ok(())
@@ -89,6 +93,26 @@ impl Batch {
         }
         Ok(some)
     }
+}
+
+fn is_load(line: &[u8]) -> bool {
+    line == b"load" || line.starts_with(b"load ")
+}
+
+fn skip_transaction(input: &mut impl BufRead) -> Result<(), Failure> {
+    let mut line = Vec::new();
+    while input.read_until(b'\n', &mut line).map_err(|_| Failure::Read)? > 0 {
+        let bare = line.strip_suffix(b"\n").unwrap_or(&line);
+        let bare = bare.strip_suffix(b"\r").unwrap_or(bare);
+        if bare == b"commit" {
+            break;
+        }
+        if is_load(bare) {
+            skip_body(input)?;
+        }
+        line.clear();
+    }
+    Ok(())
 }
 
 fn skip_body(input: &mut impl BufRead) -> Result<(), Failure> {
