@@ -1,7 +1,7 @@
 -- The turns of a run, and its moments.
 use Rattle.std.proofs.Common.{◌≡◌, ◌⊎◌, inl, inr, ℕ, zero, suc, ◌+◌, ◌<◌, ◌≤◌, List, [], ◌∷◌, ◌++◌, take, drop, length, Some, refl, sym, ap, ◌∙◌, subst, arith, append_assoc, append-nil, length-append}
 use Rattle.std.proofs.lemmas.List.{append_cancel_left, take_all, take-append-drop, length-take-le}
-use Rattle.std.specs.Prelude.{codes}
+use Rattle.std.specs.Prelude.{◌≢◌, codes}
 use Rattle.std.specs.List.{flat_map, zip}
 use Rattle.nx_host.specs.Disk.{Image}
 use Rattle.nx_script.specs.declared.request.Request.{Request}
@@ -104,7 +104,7 @@ last_between state (t ∷ ts) turn out image reached =
 -- the reply of a turn that changes nothing is out in part or whole
 pub part_between : (state : State) (turn : Turn) (n : ℕ) (image : Image) → IsOf state image → IsOf turn.next image → (n < length (answered_text turn.reply)) ⊎ (length (answered_text turn.reply) ≤ n) →
     IsReachedBetween state (turn ∷ []) (take n (answered_text turn.reply)) image
-part_between state turn n image before after (inl short) = inl (n, short, refl, before)
+part_between state turn n image before after (inl short) = inl (n, short, refl, before, inr after)
 part_between state turn n image before after (inr all) = inr ([], take_all n (answered_text turn.reply) all ∙ sym (append-nil (answered_text turn.reply)), (refl, after))
 
 -- Each moment has a number of whole replies:
@@ -154,11 +154,27 @@ one_whole turns turn more count whole = record {
 abbrev Stands : State → List Turn → ℕ → Image → Type 0
 Stands state turns count image = Recovers image (Some (state_after state (take count turns))) ⊎ Recovers image (Some (state_after state (take (count + 1) turns)))
 
+-- what stands behind one more
+one_behind : (state : State) (turn : Turn) (turns : List Turn) (count : ℕ) (image : Image) → Recovers image (Some (state_after turn.next (take (count + 1) turns))) →
+    Recovers image (Some (state_after state (take (suc count + 1) (turn ∷ turns))))
+one_behind state turn turns count image is =
+    let same : suc (count + 1) ≡ suc count + 1 = omega arith in
+    subst (λ (n : ℕ). Recovers image (Some (state_after state (take n (turn ∷ turns))))) same is
+
+-- ... where a part of another reply is out
+begun_behind : (state : State) (turn : Turn) (turns : List Turn) (count : ℕ) (more : List ℕ) (image : Image) →
+    (more ≢ texts_of (take count turns) → Recovers image (Some (state_after turn.next (take (count + 1) turns)))) → answered_text turn.reply ++ more ≢ answered_text turn.reply ++ texts_of (take count turns) →
+    Recovers image (Some (state_after state (take (suc count + 1) (turn ∷ turns))))
+begun_behind state turn turns count more image begun other = one_behind state turn turns count image (begun (λ same. other (ap (λ (l : List ℕ). answered_text turn.reply ++ l) same)))
+
+begun_between : (state : State) (turn : Turn) (turns : List Turn) (n : ℕ) (image : Image) → (n ≡ 0) ⊎ IsOf turn.next image → take n (answered_text turn.reply) ≢ [] →
+    Recovers image (Some (state_after state (take 1 (turn ∷ turns))))
+begun_between state turn turns n image (inl none) other = absurd (other (ap (λ (m : ℕ). take m (answered_text turn.reply)) none))
+begun_between state turn turns n image (inr after) other = after
+
 stands_behind : (state : State) (turn : Turn) (turns : List Turn) (count : ℕ) (image : Image) → Stands turn.next turns count image → Stands state (turn ∷ turns) (suc count) image
 stands_behind state turn turns count image (inl is) = inl is
-stands_behind state turn turns count image (inr is) =
-    let same : suc (count + 1) ≡ suc count + 1 = omega arith in
-    inr (subst (λ (n : ℕ). Recovers image (Some (state_after state (take n (turn ∷ turns))))) same is)
+stands_behind state turn turns count image (inr is) = inr (one_behind state turn turns count image is)
 
 -- a part of the first reply is out, and not all of it
 part_given : (text behind : List ℕ) (n : ℕ) → text ++ behind ≡ take n text ++ (drop n text ++ behind)
@@ -176,6 +192,7 @@ part_out state turns turn n image is (inl short) = record {
   count = 0;
   whole = part_whole turns turn n short;
   stands = inr is;
+  begun = λ other. is;
 }
 part_out state turns turn n image is (inr all) =
     subst (λ (o : List ℕ). IsMoment state (turn ∷ turns) o image) (sym (take_all n (answered_text turn.reply) all))
@@ -185,15 +202,16 @@ part_out state turns turn n image is (inr all) =
       count = 1;
       whole = subst (λ (o : List ℕ). AreWholeReplies (turn ∷ turns) o 1) (append-nil (answered_text turn.reply)) (one_whole turns turn [] 0 (nothing_whole turns));
       stands = inl is;
+      begun = λ other. absurd (other (sym (append-nil (answered_text turn.reply))));
     })
 
 pub every_moment : (state : State) (turns : List Turn) (out : List ℕ) (image : Image) → IsReached state turns out image → IsMoment state turns out image
 every_moment state [] out image (none, is) =
     subst (λ (o : List ℕ). IsMoment state [] o image) (sym none)
-    (record { rest = []; given = refl; count = 0; whole = nothing_whole []; stands = inl is })
+    (record { rest = []; given = refl; count = 0; whole = nothing_whole []; stands = inl is; begun = λ other. absurd (other refl) })
 every_moment state (t ∷ ts) out image (inl (none, is)) =
     subst (λ (o : List ℕ). IsMoment state (t ∷ ts) o image) (sym none)
-    (record { rest = texts_of (t ∷ ts); given = refl; count = 0; whole = nothing_whole (t ∷ ts); stands = inl is })
+    (record { rest = texts_of (t ∷ ts); given = refl; count = 0; whole = nothing_whole (t ∷ ts); stands = inl is; begun = λ other. absurd (other refl) })
 every_moment state (t ∷ ts) out image (inr (inl (n, part, is))) = subst (λ (o : List ℕ). IsMoment state (t ∷ ts) o image) (sym part) (part_out state ts t n image is (le_or n (length (answered_text t.reply))))
 every_moment state (t ∷ ts) out image (inr (inr (more, parts, reached))) =
     let m = every_moment t.next ts more image reached in
@@ -204,14 +222,15 @@ every_moment state (t ∷ ts) out image (inr (inr (more, parts, reached))) =
       count = suc m.count;
       whole = one_whole ts t more m.count m.whole;
       stands = stands_behind state t ts m.count image m.stands;
+      begun = begun_behind state t ts m.count more image m.begun;
     })
 
 -- ... and one between two requests has the image of the state after as many
 pub every_between : (state : State) (turns : List Turn) (out : List ℕ) (image : Image) → IsReachedBetween state turns out image → IsBetween state turns out image
 every_between state [] out image (none, is) =
     subst (λ (o : List ℕ). IsBetween state [] o image) (sym none)
-    (record { moment = record { rest = []; given = refl; count = 0; whole = nothing_whole []; stands = inl is }; stands = is })
-every_between state (t ∷ ts) out image (inl (n, short, part, is)) =
+    (record { moment = record { rest = []; given = refl; count = 0; whole = nothing_whole []; stands = inl is; begun = λ other. absurd (other refl) }; stands = is })
+every_between state (t ∷ ts) out image (inl (n, short, part, is, next)) =
     subst (λ (o : List ℕ). IsBetween state (t ∷ ts) o image) (sym part)
     (record {
       moment = record {
@@ -220,6 +239,7 @@ every_between state (t ∷ ts) out image (inl (n, short, part, is)) =
         count = 0;
         whole = part_whole ts t n short;
         stands = inl is;
+        begun = begun_between state t ts n image next;
       };
       stands = is;
     })
@@ -233,6 +253,7 @@ every_between state (t ∷ ts) out image (inr (more, parts, reached)) =
         count = suc (b.moment).count;
         whole = one_whole ts t more (b.moment).count (b.moment).whole;
         stands = inl b.stands;
+        begun = begun_behind state t ts (b.moment).count more image (b.moment).begun;
       };
       stands = b.stands;
     })

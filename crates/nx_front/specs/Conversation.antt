@@ -33,12 +33,12 @@ IsReached state (turn ∷ turns) out image =
     ⊎ (((n : ℕ) × (out ≡ take n (answered_text turn.reply)) × IsOf turn.next image)
     ⊎ ((more : List ℕ) × (out ≡ answered_text turn.reply ++ more) × IsReached turn.next turns more image))
 
--- A moment between two requests, turn by turn. At most a part of the first reply is out, and the image is of the state before it; or it is out whole, and the
--- moment is one of the turns behind.
+-- A moment between two requests, turn by turn. At most a part of the first reply is out, and the image is of the state before it, and of that after it where a byte
+-- is out; or it is out whole, and the moment is one of the turns behind.
 abbrev pub IsReachedBetween : State → List Turn → List ℕ → Image → Type 0
 IsReachedBetween state [] out image = (out ≡ []) × IsOf state image
 IsReachedBetween state (turn ∷ turns) out image =
-    ((n : ℕ) × (n < length (answered_text turn.reply)) × (out ≡ take n (answered_text turn.reply)) × IsOf state image)
+    ((n : ℕ) × (n < length (answered_text turn.reply)) × (out ≡ take n (answered_text turn.reply)) × IsOf state image × ((n ≡ 0) ⊎ IsOf turn.next image))
     ⊎ ((more : List ℕ) × (out ≡ answered_text turn.reply ++ more) × IsReachedBetween turn.next turns more image)
 
 -- a moment of a run, where the output has grown by what is out, as far as it is told

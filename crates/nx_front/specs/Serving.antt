@@ -1,5 +1,5 @@
 -- A run of a script over a store: its requests, which are commands and transactions, are answered one after the other, from the state that the disk holds on.
-use Rattle.std.specs.Prelude.{◌≡◌, ◌⊎◌, ◌↔◌, ℕ, ◌+◌, ◌<◌, ◌≤◌, List, [], ◌∷◌, ◌++◌, length, take, Option, Some, IfSome, IsSome}
+use Rattle.std.specs.Prelude.{◌≡◌, ◌≢◌, ◌⊎◌, ◌↔◌, ℕ, ◌+◌, ◌<◌, ◌≤◌, List, [], ◌∷◌, ◌++◌, length, take, Option, Some, IfSome, IsSome}
 use Rattle.std.specs.List.{flat_map}
 use Rattle.nx_host.specs.declared.disk.Disk.{Ghosts}
 use Rattle.nx_host.specs.Disk.{Image, Beside, Keeps, Rose}
@@ -38,13 +38,14 @@ pub record AreWholeReplies (turns : List Turn) (out : List ℕ) (count : ℕ) : 
   pub no_more : (more : ℕ) → count < more → more ≤ length turns → BeginsWith (texts_of (take more turns)) out → ⊥
 
 -- A moment of a run at which these bytes are out, and a stop leaves this image. They are the first of the replies' texts; and where so many replies are whole, the
--- image is that of the state after as many requests, or after one more.
+-- image is that of the state after as many requests, or after one more; after one more, where a part of another reply is out.
 pub record IsMoment (state : State) (turns : List Turn) (out : List ℕ) (image : Image) : Type 0 where
   pub rest : List ℕ
   pub given : texts_of turns ≡ out ++ rest
   pub count : ℕ
   pub whole : AreWholeReplies turns out count
   pub stands : Recovers image (Some (state_after state (take count turns))) ⊎ Recovers image (Some (state_after state (take (count + 1) turns)))
+  pub begun : out ≢ texts_of (take count turns) → Recovers image (Some (state_after state (take (count + 1) turns)))
 
 -- A moment between two requests: the image is that of the state after as many of them as replies are whole, so that none is half done.
 pub record IsBetween (state : State) (turns : List Turn) (out : List ℕ) (image : Image) : Type 0 where
