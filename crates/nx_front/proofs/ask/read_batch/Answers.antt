@@ -2,7 +2,7 @@ use Rattle.std.proofs.Common.{◌≡◌, ◌+◌, ◌<◌, ◌≤◌, ℕ, List,
 use Rattle.std.specs.Vec.{vec_len}
 use Rattle.std.proofs.lemmas.List.{map-append, length-map}
 use Rattle.std.proofs.lemmas.Result.{err_from_is_err_and}
-use Rattle.nx_host.proofs.PhaseLemmas.{takes_then}
+use Rattle.nx_host.proofs.PhaseLemmas.{none_taken, takes_then}
 use Rattle.nx_script.specs.declared.command.Command.{Command}
 use Rattle.nx_script.specs.declared.request.Request.{Request}
 use Rattle.nx_script.specs.Requests.{GivesNextRequest}
@@ -15,6 +15,19 @@ use Rattle.nx_front.proofs.ask.read_batch.Goals as goal
 fewer_came : (requests : List Request) (batch : List Command) (n : ℕ) → map as_question requests ≡ batch → n ≡ length batch → n < batch_size → length requests < batch_size
 fewer_came requests batch n asks is low =
     let long : length (map as_question requests) ≡ length requests = length-map requests as_question in let same : length (map as_question requests) ≡ length batch = ap length asks in omega (arith, long, same, is, low)
+
+pub loop-script-init : goal.loop-script-init
+loop-script-init g c =
+    let h = g.H.Disk in
+    let none : c.in-Ok.batch.items ≡ [] = c.in-Ok.ensures.items in (
+      [],
+      record {
+        asks = sym none;
+        gives = gives_none c.args.script.now (h.beside c.args.host.now).input;
+        alone = none_taken;
+        most = subst (λ (cs : List Command). length cs ≤ batch_size) (sym none) (omega arith);
+      },
+    )
 
 pub returns-in_default-clause-err : goal.returns-in_default-clause-err
 returns-in_default-clause-err g c =
@@ -72,3 +85,13 @@ returns-in_default-push-clause-err g c =
     (gives_more so_far.gives c.in-Some.request
     (λ first taken requests given.
     subst (λ (o : Option Request). GivesNextRequest o c.next.new.self taken requests first (h.beside c.next.new.host).input) c.in-Some.is (c.in_ok-request.ensures.given first taken requests given)))
+
+pub returns-clause-ok : goal.returns-clause-ok
+returns-clause-ok g c =
+    let (came, so_far) = c.loop-script.invariant in
+    let same = c.loop-script.batch.ok.0 in
+    let high : batch_size ≤ vec_len c.loop-script.batch = subst (λ (n : ℕ). batch_size ≤ n) c.len.ensures c.loop-script-test.false in
+    let long : length (map as_question came) ≡ length came = length-map came as_question in
+    let asked : length (map as_question came) ≡ length c.loop-script.batch.items = ap length so_far.asks in
+    let most = so_far.most in
+    record { requests = came; asks = so_far.asks; gives = reads_whole so_far.gives (omega (arith, same, high, long, asked, most)) }
