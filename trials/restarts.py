@@ -56,6 +56,9 @@ class Session:
 def states_of(begun, commands, last, gone={}):
     """The states after so many commands, by the last of them, and by what documents were that are gone in it."""
     states, known = [begun], gone | (last or {})
+    for name, other in reversed(list(renames_of(commands))):
+        if other in known:
+            known.setdefault(name, known[other])
     for words, document in commands:
         if words == b"begin":
             states.append(states_of(states[-1], [command for command, _ in document], None, known)[-1])
@@ -71,6 +74,15 @@ def states_of(begun, commands, last, gone={}):
     if last is not None and states[-1] != last:
         raise Wrong(f"a session holds {sorted(last)} in the end, and not {sorted(states[-1])}")
     return states
+
+
+def renames_of(commands):
+    """Each document's name and its new one, in order, also within transactions."""
+    for words, document in commands:
+        if words == b"begin":
+            yield from renames_of([command for command, _ in document])
+        elif words.startswith(b"rename "):
+            yield tuple(words.split()[1:])
 
 
 def renamed(held, name, other):
