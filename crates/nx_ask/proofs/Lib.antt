@@ -1,5 +1,5 @@
-pub mod PageLemmas
+mod PageLemmas
 pub mod SnapshotLemmas
-pub mod AskLemmas
+mod AskLemmas
 pub mod RowLemmas
-pub mod StoreLemmas
+mod StoreLemmas

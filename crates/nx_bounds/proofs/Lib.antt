@@ -1,15 +1,15 @@
-pub mod LawLemmas
-pub mod Law
-pub mod MinimaLemmas
-pub mod WalkLemmas
-pub mod PlanLemmas
+mod LawLemmas
+mod Law
+mod MinimaLemmas
+mod WalkLemmas
+mod PlanLemmas
 pub mod VerdictLemmas
-pub mod EveryVerdict
-pub mod PlanFields
-pub mod PlanLines
+mod EveryVerdict
+mod PlanFields
+mod PlanLines
 pub mod OnePlan
-pub mod PlanTexts
-pub mod Pushed
-pub mod GrownLemmas
-pub mod PlanLimits
-pub mod OneText
+mod PlanTexts
+mod Pushed
+mod GrownLemmas
+mod PlanLimits
+mod OneText

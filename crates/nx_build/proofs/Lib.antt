@@ -1,12 +1,12 @@
-pub mod RowLemmas
-pub mod LayingLemmas
-pub mod CallLemmas
+mod RowLemmas
+mod LayingLemmas
+mod CallLemmas
 pub mod MarkedLemmas
-pub mod OrderLemmas
+mod OrderLemmas
 pub mod HolderLemmas
-pub mod GapLemmas
-pub mod LeftLemmas
-pub mod WalkLemmas
-pub mod StepLemmas
-pub mod TreeLemmas
-pub mod StoreLemmas
+mod GapLemmas
+mod LeftLemmas
+mod WalkLemmas
+mod StepLemmas
+mod TreeLemmas
+mod StoreLemmas

@@ -1,4 +1,4 @@
-pub mod AddressLemmas
-pub mod ListLemmas
-pub mod FrameLemmas
+mod AddressLemmas
+mod ListLemmas
+mod FrameLemmas
 pub mod CallerLemmas

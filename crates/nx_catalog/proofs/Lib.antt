@@ -1,13 +1,13 @@
 pub mod NameMap
-pub mod InsideLemmas
-pub mod NameLemmas
-pub mod WritingLemmas
+mod InsideLemmas
+mod NameLemmas
+mod WritingLemmas
 pub mod LengthLemmas
-pub mod RisingLemmas
-pub mod FieldLemmas
-pub mod ListedLemmas
-pub mod DocumentLemmas
+mod RisingLemmas
+mod FieldLemmas
+mod ListedLemmas
+mod DocumentLemmas
 pub mod RuleLemmas
 pub mod CatalogLemmas
 pub mod SavingLemmas
-pub mod PlaceLemmas
+mod PlaceLemmas

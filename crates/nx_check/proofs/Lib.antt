@@ -1,21 +1,21 @@
-pub mod HeadLemmas
-pub mod ProxyLemmas
-pub mod ChainLemmas
-pub mod BuildLemmas
-pub mod BetweenLemmas
-pub mod RecordingLemmas
-pub mod ComeLemmas
-pub mod FreeLemmas
-pub mod RowLemmas
-pub mod ShownLemmas
-pub mod SiblingLemmas
-pub mod FitLemmas
-pub mod LaidLemmas
-pub mod TopLemmas
-pub mod ReachLemmas
-pub mod WalkLemmas
-pub mod DocumentLemmas
-pub mod WordLemmas
-pub mod MarkLemmas
-pub mod IntervalLemmas
-pub mod RootLemmas
+mod HeadLemmas
+mod ProxyLemmas
+mod ChainLemmas
+mod BuildLemmas
+mod BetweenLemmas
+mod RecordingLemmas
+mod ComeLemmas
+mod FreeLemmas
+mod RowLemmas
+mod ShownLemmas
+mod SiblingLemmas
+mod FitLemmas
+mod LaidLemmas
+mod TopLemmas
+mod ReachLemmas
+mod WalkLemmas
+mod DocumentLemmas
+mod WordLemmas
+mod MarkLemmas
+mod IntervalLemmas
+mod RootLemmas

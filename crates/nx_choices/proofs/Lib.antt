@@ -1,9 +1,9 @@
-pub mod BuildLemmas
-pub mod ChoiceLemmas
-pub mod FitLemmas
-pub mod FoundLemmas
-pub mod LeastLemmas
-pub mod LightestLemmas
-pub mod ProfileLemmas
-pub mod ReachLemmas
-pub mod WalkLemmas
+mod BuildLemmas
+mod ChoiceLemmas
+mod FitLemmas
+mod FoundLemmas
+mod LeastLemmas
+mod LightestLemmas
+mod ProfileLemmas
+mod ReachLemmas
+mod WalkLemmas

@@ -3,7 +3,7 @@ pub mod Draw
 pub mod PairLemmas
 pub mod FeasibleLemmas
 pub mod PartitionLemmas
-pub mod DrawLemmas
+mod DrawLemmas
 pub mod DeepLemmas
 pub mod FreeLemmas
 pub mod FoldLemmas

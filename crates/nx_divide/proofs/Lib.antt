@@ -1,19 +1,19 @@
-pub mod SplitLemmas
-pub mod RowLemmas
-pub mod WrittenLemmas
-pub mod PutLemmas
-pub mod CallLemmas
-pub mod MarkedLemmas
-pub mod PartedLemmas
-pub mod PlaceLemmas
-pub mod LastLemmas
-pub mod RaisedLemmas
-pub mod WalkLemmas
-pub mod AgreeLemmas
-pub mod RunLemmas
-pub mod StepLemmas
-pub mod TopLemmas
-pub mod FitLemmas
-pub mod LeftLemmas
-pub mod KeepLemmas
+mod SplitLemmas
+mod RowLemmas
+mod WrittenLemmas
+mod PutLemmas
+mod CallLemmas
+mod MarkedLemmas
+mod PartedLemmas
+mod PlaceLemmas
+mod LastLemmas
+mod RaisedLemmas
+mod WalkLemmas
+mod AgreeLemmas
+mod RunLemmas
+mod StepLemmas
+mod TopLemmas
+mod FitLemmas
+mod LeftLemmas
+mod KeepLemmas
 pub mod HeavyLemmas

@@ -1,17 +1,17 @@
-pub mod LookLemmas
+mod LookLemmas
 pub mod SpotLemmas
-pub mod CoreLemmas
-pub mod NumberLemmas
-pub mod WeightLemmas
-pub mod PlanLemmas
-pub mod NeighbourLemmas
-pub mod SettleLemmas
+mod CoreLemmas
+mod NumberLemmas
+mod WeightLemmas
+mod PlanLemmas
+mod NeighbourLemmas
+mod SettleLemmas
 pub mod DrawnLemmas
-pub mod SeparatedLemmas
-pub mod SeparateLemmas
-pub mod RunLemmas
-pub mod PlannedLemmas
-pub mod RaisedLemmas
-pub mod RaiseLemmas
-pub mod ComponentLemmas
-pub mod SplitLemmas
+mod SeparatedLemmas
+mod SeparateLemmas
+mod RunLemmas
+mod PlannedLemmas
+mod RaisedLemmas
+mod RaiseLemmas
+mod ComponentLemmas
+mod SplitLemmas

@@ -1,6 +1,6 @@
-pub mod SketchLemmas
-pub mod TestLemmas
-pub mod PathLemmas
-pub mod PlanLemmas
-pub mod RunLemmas
-pub mod SplitLemmas
+mod SketchLemmas
+mod TestLemmas
+mod PathLemmas
+mod PlanLemmas
+mod RunLemmas
+mod SplitLemmas

@@ -1,10 +1,10 @@
 pub mod RowLemmas
 pub mod LabelLemmas
-pub mod OpenLemmas
-pub mod DraftEdit
+mod OpenLemmas
+mod DraftEdit
 pub mod GatherLemmas
 pub mod DraftLemmas
 pub mod PlacesLemmas
 pub mod SomeLemmas
-pub mod OnceLemmas
+mod OnceLemmas
 pub mod NeedsLemmas

@@ -1,13 +1,13 @@
 pub mod EditLemmas
 pub mod SplitLemmas
-pub mod DeleteLemmas
+mod DeleteLemmas
 pub mod OwnLemmas
 pub mod DivisionLemmas
 pub mod DividedLemmas
-pub mod FormedLemmas
+mod FormedLemmas
 pub mod BareLemmas
 pub mod PieceLemmas
-pub mod PlacementLemmas
+mod PlacementLemmas
 pub mod MarkLemmas
 pub mod EditLaws
 pub mod GrowthLemmas

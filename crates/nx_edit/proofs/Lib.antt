@@ -1,60 +1,60 @@
 pub mod ToldLemmas
-pub mod LongLemmas
-pub mod MakingLemmas
-pub mod MakingCalls
-pub mod LongCalls
-pub mod RemoveLemmas
-pub mod CountLemmas
-pub mod ThroughLemmas
-pub mod CutLemmas
-pub mod ChangedLemmas
+mod LongLemmas
+mod MakingLemmas
+mod MakingCalls
+mod LongCalls
+mod RemoveLemmas
+mod CountLemmas
+mod ThroughLemmas
+mod CutLemmas
+mod ChangedLemmas
 pub mod OffLemmas
-pub mod FillLemmas
-pub mod OwnLemmas
-pub mod PassedLemmas
-pub mod AwayLemmas
-pub mod StayLemmas
-pub mod RefillLemmas
-pub mod UpLemmas
-pub mod RowCalls
-pub mod PassCalls
-pub mod RowPutCalls
-pub mod ChangeCalls
-pub mod OffOneLemmas
-pub mod SetLemmas
-pub mod SetCalls
-pub mod DeleteLemmas
-pub mod OrderLemmas
-pub mod GrownLemmas
-pub mod DividedLemmas
-pub mod GrownThroughLemmas
-pub mod BetweenLemmas
-pub mod PlantLemmas
-pub mod PlantCalls
-pub mod DocumentLemmas
-pub mod RetextLemmas
-pub mod PlaceLemmas
-pub mod CheckLemmas
-pub mod InsertLemmas
-pub mod WriteLemmas
-pub mod InsertCalls
-pub mod RetextCalls
-pub mod JoinLemmas
-pub mod JoinedLemmas
-pub mod JoinCalls
-pub mod SpotLemmas
-pub mod PartLemmas
-pub mod ApartLemmas
-pub mod HalfLemmas
-pub mod PartedLemmas
-pub mod PartCalls
-pub mod SizeLemmas
-pub mod FarLemmas
-pub mod HeldLemmas
-pub mod PutLemmas
-pub mod FreeLemmas
-pub mod EndLemmas
-pub mod FinishLemmas
-pub mod GoneLemmas
-pub mod GrownFarLemmas
-pub mod PageLemmas
+mod FillLemmas
+mod OwnLemmas
+mod PassedLemmas
+mod AwayLemmas
+mod StayLemmas
+mod RefillLemmas
+mod UpLemmas
+mod RowCalls
+mod PassCalls
+mod RowPutCalls
+mod ChangeCalls
+mod OffOneLemmas
+mod SetLemmas
+mod SetCalls
+mod DeleteLemmas
+mod OrderLemmas
+mod GrownLemmas
+mod DividedLemmas
+mod GrownThroughLemmas
+mod BetweenLemmas
+mod PlantLemmas
+mod PlantCalls
+mod DocumentLemmas
+mod RetextLemmas
+mod PlaceLemmas
+mod CheckLemmas
+mod InsertLemmas
+mod WriteLemmas
+mod InsertCalls
+mod RetextCalls
+mod JoinLemmas
+mod JoinedLemmas
+mod JoinCalls
+mod SpotLemmas
+mod PartLemmas
+mod ApartLemmas
+mod HalfLemmas
+mod PartedLemmas
+mod PartCalls
+mod SizeLemmas
+mod FarLemmas
+mod HeldLemmas
+mod PutLemmas
+mod FreeLemmas
+mod EndLemmas
+mod FinishLemmas
+mod GoneLemmas
+mod GrownFarLemmas
+mod PageLemmas

@@ -1,5 +1,5 @@
-pub mod MapLemmas
+mod MapLemmas
 pub mod StepLemmas
-pub mod SizeLemmas
-pub mod ListedLemmas
+mod SizeLemmas
+mod ListedLemmas
 pub mod EditedLemmas

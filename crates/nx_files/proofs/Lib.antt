@@ -1,2 +1,2 @@
-pub mod Renewed
-pub mod CutLemmas
+mod Renewed
+mod CutLemmas

@@ -1,7 +1,7 @@
 pub mod OutcomeLemmas
 pub mod GiveLemmas
-pub mod ConsumerLemmas
+mod ConsumerLemmas
 pub mod TidyLemmas
 pub mod PlanLemmas
-pub mod PlannedLemmas
+mod PlannedLemmas
 pub mod VerifyLemmas

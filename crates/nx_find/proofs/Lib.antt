@@ -1,3 +1,3 @@
-pub mod WalkLemmas
-pub mod LookingLemmas
-pub mod OverLemmas
+mod WalkLemmas
+mod LookingLemmas
+mod OverLemmas

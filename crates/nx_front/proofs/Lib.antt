@@ -1,22 +1,22 @@
-pub mod CommandLineLemmas
-pub mod ClockLemmas
-pub mod MomentLemmas
-pub mod ServeLemmas
-pub mod ServingLaws
-pub mod UntakenLemmas
-pub mod LookupLemmas
-pub mod ConversationLemmas
+mod CommandLineLemmas
+mod ClockLemmas
+mod MomentLemmas
+mod ServeLemmas
+mod ServingLaws
+mod UntakenLemmas
+mod LookupLemmas
+mod ConversationLemmas
 pub mod InitLemmas
-pub mod GeneratingLemmas
-pub mod CheckingLemmas
-pub mod ShippingLemmas
-pub mod AppliedLemmas
-pub mod TopLemmas
-pub mod ReceivedLemmas
-pub mod SessionLemmas
-pub mod FindingLaws
-pub mod SearchingLemmas
-pub mod FindingLemmas
-pub mod BatchLemmas
-pub mod AskingLaws
-pub mod AskingLemmas
+mod GeneratingLemmas
+mod CheckingLemmas
+mod ShippingLemmas
+mod AppliedLemmas
+mod TopLemmas
+mod ReceivedLemmas
+mod SessionLemmas
+mod FindingLaws
+mod SearchingLemmas
+mod FindingLemmas
+mod BatchLemmas
+mod AskingLaws
+mod AskingLemmas

@@ -1,11 +1,11 @@
 pub mod PieceLemmas
 pub mod MapLemmas
 pub mod TidyLemmas
-pub mod NamedLemmas
-pub mod WrittenLemmas
+mod NamedLemmas
+mod WrittenLemmas
 pub mod PutLemmas
 pub mod RefusalLemmas
-pub mod CallLemmas
+mod CallLemmas
 pub mod RecordsLemmas
 pub mod MoveLemmas
 pub mod ContentLemmas

@@ -1,1 +1,1 @@
-pub mod NearLemmas
+mod NearLemmas

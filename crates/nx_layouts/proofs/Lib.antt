@@ -13,10 +13,10 @@ pub mod BodyLemmas
 pub mod StandLemmas
 pub mod PathLemmas
 pub mod AboveLemmas
-pub mod CountLemmas
+mod CountLemmas
 pub mod ChangeLemmas
 pub mod SettingLemmas
 pub mod PlantLemmas
-pub mod FallLemmas
+mod FallLemmas
 pub mod ChildLemmas
 pub mod DivideLemmas

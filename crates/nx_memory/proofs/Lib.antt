@@ -1,6 +1,6 @@
-pub mod SpliceLemmas
+mod SpliceLemmas
 pub mod HistoryLemmas
-pub mod MemoryLemmas
-pub mod QuietLemmas
-pub mod UndoLemmas
-pub mod CrashLemmas
+mod MemoryLemmas
+mod QuietLemmas
+mod UndoLemmas
+mod CrashLemmas

@@ -1,9 +1,9 @@
 pub mod ShownLemmas
 pub mod LookLemmas
-pub mod NotedLemmas
-pub mod SerialLemmas
+mod NotedLemmas
+mod SerialLemmas
 pub mod GatherLemmas
 pub mod HeardLemmas
-pub mod SortLemmas
-pub mod HolderLemmas
-pub mod NumberLemmas
+mod SortLemmas
+mod HolderLemmas
+mod NumberLemmas

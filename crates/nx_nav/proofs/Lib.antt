@@ -1,19 +1,19 @@
 pub mod PartLemmas
 pub mod RefusalLemmas
-pub mod ChildLemmas
+mod ChildLemmas
 pub mod SeekLemmas
-pub mod WrittenLemmas
-pub mod ShowLemmas
-pub mod BesideLemmas
-pub mod RouteLemmas
-pub mod WayLemmas
-pub mod ContentLemmas
+mod WrittenLemmas
+mod ShowLemmas
+mod BesideLemmas
+mod RouteLemmas
+mod WayLemmas
+mod ContentLemmas
 pub mod SplitLemmas
-pub mod TellLemmas
-pub mod DocumentLemmas
-pub mod TextLemmas
-pub mod LaidLemmas
-pub mod GivenLemmas
-pub mod NodeLemmas
-pub mod VisitLemmas
-pub mod EarlyLemmas
+mod TellLemmas
+mod DocumentLemmas
+mod TextLemmas
+mod LaidLemmas
+mod GivenLemmas
+mod NodeLemmas
+mod VisitLemmas
+mod EarlyLemmas

@@ -1,1 +1,1 @@
-pub mod AddLemmas
+mod AddLemmas

@@ -1,9 +1,9 @@
 pub mod BoundsLemmas
 pub mod GrowLemmas
-pub mod SeenLemmas
-pub mod Formed
-pub mod PlanLemmas
-pub mod StandLemmas
-pub mod WalkLemmas
-pub mod WholeLemmas
+mod SeenLemmas
+mod Formed
+mod PlanLemmas
+mod StandLemmas
+mod WalkLemmas
+mod WholeLemmas
 pub mod LightLemmas

@@ -1,9 +1,9 @@
 pub mod Owned
 pub mod OwnerLemmas
-pub mod OwedLemmas
+mod OwedLemmas
 pub mod HolderLemmas
-pub mod MarkLemmas
-pub mod MemberLemmas
-pub mod WalkLemmas
-pub mod FeasibleLemmas
+mod MarkLemmas
+mod MemberLemmas
+mod WalkLemmas
+mod FeasibleLemmas
 pub mod MinimaLemmas

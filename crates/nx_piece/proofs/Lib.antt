@@ -1,15 +1,15 @@
 pub mod GappedLemmas
 pub mod SizeLemmas
-pub mod FlatLemmas
+mod FlatLemmas
 pub mod WalkLemmas
 pub mod ApartLemmas
-pub mod PageLemmas
-pub mod ContentLemmas
+mod PageLemmas
+mod ContentLemmas
 pub mod ReadLemmas
 pub mod BodyLemmas
-pub mod CheckLemmas
-pub mod PushLemmas
-pub mod CopyLemmas
+mod CheckLemmas
+mod PushLemmas
+mod CopyLemmas
 pub mod Laws
 pub mod LocateLemmas
 pub mod FoundLemmas

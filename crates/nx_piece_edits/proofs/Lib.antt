@@ -1,13 +1,13 @@
 pub mod TakeLemmas
-pub mod RootLemmas
+mod RootLemmas
 pub mod LeftLemmas
 pub mod JoinedLemmas
-pub mod ShortLemmas
-pub mod SetLemmas
+mod ShortLemmas
+mod SetLemmas
 pub mod WiderLemmas
-pub mod PassedLemmas
-pub mod SpotLemmas
-pub mod PlantLemmas
-pub mod FallLemmas
-pub mod DivideLemmas
+mod PassedLemmas
+mod SpotLemmas
+mod PlantLemmas
+mod FallLemmas
+mod DivideLemmas
 pub mod ContentsLemmas

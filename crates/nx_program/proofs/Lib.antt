@@ -1,2 +1,2 @@
-pub mod CommandLemmas
-pub mod OwnLemmas
+mod CommandLemmas
+mod OwnLemmas

@@ -1,27 +1,27 @@
-pub mod GoesLemmas
+mod GoesLemmas
 pub mod DocumentLemmas
 pub mod Reading
 pub mod ShownFaultLemmas
-pub mod Sizes
-pub mod Early
-pub mod Built
-pub mod EventLemmas
-pub mod BuilderLemmas
-pub mod MakeLemmas
-pub mod Writing
-pub mod LineLemmas
-pub mod ScanLemmas
+mod Sizes
+mod Early
+mod Built
+mod EventLemmas
+mod BuilderLemmas
+mod MakeLemmas
+mod Writing
+mod LineLemmas
+mod ScanLemmas
 pub mod UnescapeLemmas
 pub mod NamesLemmas
 pub mod StreamLemmas
-pub mod EarlyLemmas
+mod EarlyLemmas
 pub mod HasRoomLemmas
 pub mod Outcome
-pub mod Open
-pub mod DoneLemmas
-pub mod EscapeLemmas
+mod Open
+mod DoneLemmas
+mod EscapeLemmas
 pub mod PrefixLemmas
-pub mod WriterLemmas
+mod WriterLemmas
 pub mod FieldLemmas
 pub mod PathLemmas
 pub mod StartLemmas

@@ -1,18 +1,18 @@
 pub mod StandLemmas
 pub mod GroupLemmas
-pub mod StepLemmas
+mod StepLemmas
 pub mod LeaveLemmas
 pub mod RefusalLemmas
-pub mod FirstLemmas
-pub mod LostLemmas
+mod FirstLemmas
+mod LostLemmas
 pub mod ChainLemmas
-pub mod ReadingLemmas
-pub mod WritingLemmas
-pub mod RewritingLemmas
-pub mod FreedLemmas
-pub mod InPlaceLemmas
+mod ReadingLemmas
+mod WritingLemmas
+mod RewritingLemmas
+mod FreedLemmas
+mod InPlaceLemmas
 pub mod PatchedLemmas
-pub mod PatchingLemmas
-pub mod KnownLemmas
-pub mod RoomLemmas
-pub mod SeenLemmas
+mod PatchingLemmas
+mod KnownLemmas
+mod RoomLemmas
+mod SeenLemmas

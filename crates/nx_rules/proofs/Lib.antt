@@ -1,21 +1,21 @@
 pub mod FirstLemmas
-pub mod ContentLemmas
-pub mod RecordLemmas
-pub mod WithinLemmas
+mod ContentLemmas
+mod RecordLemmas
+mod WithinLemmas
 pub mod MeetLemmas
-pub mod AheadLemmas
-pub mod VisitLemmas
+mod AheadLemmas
+mod VisitLemmas
 pub mod RuleLemmas
 pub mod VerdictLemmas
 pub mod SoundLemmas
-pub mod LaidLemmas
-pub mod ListsLemmas
-pub mod TidyLemmas
-pub mod DeepLemmas
-pub mod StateLemmas
+mod LaidLemmas
+mod ListsLemmas
+mod TidyLemmas
+mod DeepLemmas
+mod StateLemmas
 pub mod StandsLemmas
-pub mod LinksLemmas
-pub mod RebuildLemmas
+mod LinksLemmas
+mod RebuildLemmas
 pub mod KeptLemmas
 pub mod StepLemmas
 pub mod PlaceLemmas

@@ -1,15 +1,15 @@
-pub mod Prefixes
-pub mod SplitsIntoLemmas
-pub mod LinesLemmas
+mod Prefixes
+mod SplitsIntoLemmas
+mod LinesLemmas
 pub mod BeforeDot
-pub mod DocumentLines
-pub mod ParserLemmas
+mod DocumentLines
+mod ParserLemmas
 pub mod ScriptLemmas
-pub mod WholeLemmas
+mod WholeLemmas
 pub mod CutLemmas
 pub mod CanComeLemmas
-pub mod BodyLemmas
-pub mod OneList
-pub mod ReplyLemmas
+mod BodyLemmas
+mod OneList
+mod ReplyLemmas
 pub mod RequestLemmas
 pub mod OneRequestList

@@ -1,4 +1,4 @@
-pub mod ItemLemmas
-pub mod ChildLemmas
-pub mod WayLemmas
+mod ItemLemmas
+mod ChildLemmas
+mod WayLemmas
 pub mod WrittenLemmas

@@ -1,23 +1,23 @@
-pub mod ToldLemmas
+mod ToldLemmas
 pub mod StreamLemmas
-pub mod BytesLemmas
-pub mod ShippedLemmas
-pub mod WholeLemmas
+mod BytesLemmas
+mod ShippedLemmas
+mod WholeLemmas
 pub mod ReadingLemmas
-pub mod SendLemmas
-pub mod ApplyingLemmas
+mod SendLemmas
+mod ApplyingLemmas
 pub mod EntryLemmas
-pub mod PageLemmas
-pub mod ReceivingLemmas
-pub mod StoreLemmas
-pub mod SendingLemmas
-pub mod PartLemmas
-pub mod GroupsLemmas
-pub mod TakingLemmas
-pub mod CallLemmas
-pub mod FromLemmas
-pub mod ShippingLemmas
-pub mod OpenLemmas
-pub mod PieceLemmas
+mod PageLemmas
+mod ReceivingLemmas
+mod StoreLemmas
+mod SendingLemmas
+mod PartLemmas
+mod GroupsLemmas
+mod TakingLemmas
+mod CallLemmas
+mod FromLemmas
+mod ShippingLemmas
+mod OpenLemmas
+mod PieceLemmas
 pub mod RecoveryLemmas
 pub mod MomentLemmas

@@ -1,3 +1,3 @@
-pub mod PathLemmas
+mod PathLemmas
 pub mod MarkLemmas
 pub mod OrderLemmas

@@ -1,4 +1,4 @@
-pub mod SketchLemmas
-pub mod EntryLemmas
-pub mod ListLemmas
-pub mod PathLemmas
+mod SketchLemmas
+mod EntryLemmas
+mod ListLemmas
+mod PathLemmas

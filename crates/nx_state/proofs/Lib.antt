@@ -3,7 +3,7 @@ pub mod StayLemmas
 pub mod OneLemmas
 pub mod FirstLemmas
 pub mod ChangeLemmas
-pub mod ListLemmas
+mod ListLemmas
 pub mod NodeLemmas
 pub mod FreeLemmas
 pub mod ContentLemmas

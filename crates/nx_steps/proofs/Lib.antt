@@ -1,11 +1,11 @@
-pub mod TreesLemmas
+mod TreesLemmas
 pub mod TreesLaw
 pub mod StoredLemmas
-pub mod FeasibleLemmas
-pub mod PlainLemmas
+mod FeasibleLemmas
+mod PlainLemmas
 pub mod SoundLemmas
 pub mod RunLemmas
-pub mod AgreeLemmas
+mod AgreeLemmas
 pub mod CountLemmas
 pub mod RequestLemmas
-pub mod RequestAgreeLemmas
+mod RequestAgreeLemmas

@@ -1,31 +1,31 @@
 pub mod CaseLemmas
-pub mod CommitLemmas
-pub mod StepsLemmas
-pub mod RuleLemmas
+mod CommitLemmas
+mod StepsLemmas
+mod RuleLemmas
 pub mod AtLemmas
 pub mod StayingLemmas
-pub mod ReadLemmas
+mod ReadLemmas
 pub mod ShowLemmas
 pub mod FoundLemmas
-pub mod RefusalLemmas
-pub mod LookLemmas
-pub mod ExportLemmas
-pub mod ListedLemmas
-pub mod PlanLemmas
-pub mod NameLemmas
-pub mod OrderedLemmas
-pub mod GoneLemmas
-pub mod EditLemmas
-pub mod PageLemmas
-pub mod RoomLemmas
-pub mod LoadLemmas
-pub mod KeepLemmas
-pub mod StepLemmas
-pub mod LogLemmas
-pub mod TextLemmas
-pub mod EndedLemmas
-pub mod NamingLemmas
-pub mod TransactLemmas
-pub mod LoadNextLemmas
-pub mod PrepareLemmas
-pub mod RenameLemmas
+mod RefusalLemmas
+mod LookLemmas
+mod ExportLemmas
+mod ListedLemmas
+mod PlanLemmas
+mod NameLemmas
+mod OrderedLemmas
+mod GoneLemmas
+mod EditLemmas
+mod PageLemmas
+mod RoomLemmas
+mod LoadLemmas
+mod KeepLemmas
+mod StepLemmas
+mod LogLemmas
+mod TextLemmas
+mod EndedLemmas
+mod NamingLemmas
+mod TransactLemmas
+mod LoadNextLemmas
+mod PrepareLemmas
+mod RenameLemmas

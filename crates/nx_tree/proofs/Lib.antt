@@ -1,7 +1,7 @@
 pub mod ForestLemmas
 pub mod PlaceLemmas
 pub mod EditLemmas
-pub mod OrderLemmas
+mod OrderLemmas
 pub mod SoundLemmas
 pub mod KeptLemmas
 pub mod TestLemmas

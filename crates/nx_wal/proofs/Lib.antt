@@ -1,12 +1,12 @@
-pub mod ReadingLemmas
+mod ReadingLemmas
 pub mod WalLemmas
-pub mod WritingLemmas
-pub mod MovingLemmas
-pub mod PageLemmas
-pub mod GatherLemmas
-pub mod ListLemmas
-pub mod WaitingLemmas
-pub mod CountLemmas
+mod WritingLemmas
+mod MovingLemmas
+mod PageLemmas
+mod GatherLemmas
+mod ListLemmas
+mod WaitingLemmas
+mod CountLemmas
 mod RenewLemmas
-pub mod LostLemmas
+mod LostLemmas
 mod OwnLemmas

@@ -1,3 +1,3 @@
-pub mod GroupLemmas
-pub mod StampLemmas
-pub mod StepLemmas
+mod GroupLemmas
+mod StampLemmas
+mod StepLemmas

@@ -1,4 +1,4 @@
 pub mod LimitLemmas
 pub mod SumLemmas
-pub mod HeavyLemmas
+mod HeavyLemmas
 pub mod AtMostLemmas

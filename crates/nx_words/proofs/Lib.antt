@@ -1,1 +1,1 @@
-pub mod OperandsLemmas
+mod OperandsLemmas
