@@ -3,8 +3,8 @@ use Rattle.std.specs.Prelude.{ℕ, ◌==◌, if◌then◌else◌, List, [], ◌�
 use Rattle.std.specs.List.{flat_map}
 use Rattle.nx_tree.specs.declared.node.Kind.{Kind}
 use Rattle.nx_tree.specs.declared.node.Kind.TheVariants.{Doc, Element, Attribute, Text, Instruction}
-use Rattle.nx_tree.specs.Forest.{OrderedTree}
-use Rattle.nx_tree.specs.Document.{is_empty}
+use Rattle.nx_tree.specs.Forest.{OrderedTree, Plant, Empty}
+use Rattle.nx_tree.specs.Document.{is_empty, is_doc}
 use Rattle.nx_pyx.specs.Event.{Event, Start, End, Single, events}
 
 -- LF, TAB, CR and the backslash as two bytes, any other byte as itself
@@ -40,3 +40,7 @@ text_of es = flat_map (λ e. canonical_line e ++ 10 ∷ []) es
 -- the canonical text of a document
 abbrev pub text : OrderedTree → List ℕ
 text tree = text_of (events tree.below)
+
+-- The canonical lines of a node with all below it, as they stand in the text of its document: of a document's root the whole text, since it has no line.
+abbrev pub tree_text : OrderedTree → List ℕ
+tree_text tree = if is_doc tree.node.kind then text tree else text_of (events (Plant tree.node tree.below Empty))

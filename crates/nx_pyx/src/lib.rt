@@ -31,4 +31,5 @@ pub use paths::{path, position, push_path};
 pub use reader::{Reader, line_end};
 pub use writer::{
     Writer, node_line, push_escaped, push_line_start, push_node_line, push_parts_line, write,
+    write_tree,
 };

@@ -1,8 +1,9 @@
 // From a tree to its canonical text, line by line.
 ghost use Rattle.std.specs.Prelude.{◌≡◌, ◌≢◌, ◌<◌, ◌≤◌, ℕ, List, [], ◌∷◌, ◌++◌, length, take, true, false, IsTrue, ◌↔◌, Ok, IfOk, IsOkAnd, OnOk, OnErr};
 ghost use Rattle.std.specs.List.{list_any};
-ghost use Rattle.nx_pyx.specs.Event.{Event};
-ghost use Rattle.nx_pyx.specs.Text.{text, text_of, escape, escaped, node_line};
+ghost use Rattle.nx_tree.specs.Forest.{forest_of};
+ghost use Rattle.nx_pyx.specs.Event.{Event, events};
+ghost use Rattle.nx_pyx.specs.Text.{text, tree_text, text_of, escape, escaped, node_line};
 ghost use Rattle.nx_pyx.specs.LineStart.{line_start};
 ghost use Rattle.nx_pyx.specs.Escape.{needs_escape};
 
@@ -10,6 +11,7 @@ use crate::scan::{self, Escaped};
 use nx_tree::{Bytes, Kind, NoMemory, Node, Tree};
 use std::alloc::Global;
 use std::marker::Model;
+use std::slice;
 
 // An open element: its name, and the trees that stand after it under the same parent.
 #[derive(Clone, Copy)]
@@ -131,8 +133,31 @@ impl<'a> Writer<'a> {
 pub fn write(alloc: Global, tree: &Tree) -> Result<Bytes, NoMemory>
     ensures { IfOk result (λ bytes. bytes ≡ text tree.now) }
 {
+    write_all(alloc, tree.children.as_slice())
+}
+
+/// The canonical lines of a node with all below it, each with its LF, as they stand in the text of its document; of a
+/// document's root the whole text.
+///
+/// Errors: `NoMemory`.
+pub fn write_tree(alloc: Global, tree: &Tree) -> Result<Bytes, NoMemory>
+    ensures { IfOk result (λ bytes. bytes ≡ tree_text tree.now) }
+{
+    match tree.node.kind {
+        Kind::Doc => write(alloc, tree),
+        _ => write_all(alloc, slice::from_ref(tree)),
+    }
+}
+
+// The canonical lines of trees beside each other.
+fn write_all(alloc: Global, trees: &[Tree]) -> Result<Bytes, NoMemory>
+    ensures { IfOk result (λ bytes. bytes ≡ text_of (events (forest_of trees.now))) }
+{
     let mut bytes = Bytes::new(alloc);
-    let mut writer = Writer::new(alloc, tree)?;
+    let mut writer = Writer {
+        elements: Vec::new(alloc),
+        rest: trees,
+    };
     while writer.step(&mut bytes)? {}
     Ok(bytes)
 }
