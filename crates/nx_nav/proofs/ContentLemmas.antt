@@ -1,5 +1,5 @@
 -- How a node begins for a teller, and its content told page by page.
-use Rattle.std.proofs.Common.{◌≡◌, ℕ, suc, ◌≤◌, ◌<◌, Bool, true, false, if◌then◌else◌, List, [], ◌∷◌, ◌++◌, length, map, take, drop, Option, None, Some, refl, sym, ap, ◌∙◌, subst, arith, append_assoc, length-append}
+use Rattle.std.proofs.Common.{◌≡◌, ◌+◌, ◌*◌, ℕ, suc, ◌≤◌, ◌<◌, Bool, true, false, if◌then◌else◌, List, [], ◌∷◌, ◌++◌, length, map, take, drop, Option, None, Some, refl, sym, ap, ◌∙◌, subst, arith, append_assoc, length-append}
 use Rattle.std.proofs.lemmas.List.{append-nil, take_all}
 use Rattle.std.specs.Prelude.{◌≢◌, ◌^◌, nat_le, IsSome}
 use Rattle.std.proofs.lemmas.Bool.Decides.{nat_tests}
@@ -357,3 +357,10 @@ module _ {A D : Type 0} {d : Ghosts D} {Told : A → D → List WalkStep → A �
 
     pub long_not_ended : {c : A} {y : D} → TellsEach d Told (HasNode d r x shown) (λ n. content_steps asked n.content) b x c y → StopsInEach d Told (HasNode d r x shown) (begun_steps asked) a x y
     long_not_ended {c} has = long_stops (record { told = has.told; last = c; goes = has.goes; first = λ seen n h. ([], sym (has.all seen n h) ∙ sym (append-nil has.told)) })
+
+-- Pages that are read of a content, each but the last one full:
+pub one_page_more : (before now next long left : ℕ) → page_room * now + left ≤ page_room * before + long → (left ≡ 0 → ⊥) → next ≤ now + 1 → next ≤ before + chain_count long
+one_page_more before now next long left full some one = omega (arith, full, some, one)
+
+pub full_page_more : (before now next long left more : ℕ) → page_room * now + left ≤ page_room * before + long → next ≤ now + 1 → page_room + more ≡ left → page_room * next + more ≤ page_room * before + long
+full_page_more before now next long left more full one whole = omega (arith, full, one, whole)

@@ -16,7 +16,7 @@ use Rattle.nx_nav.specs.declared.error.NavError.{NavError}
 use Rattle.nx_nav.specs.declared.visited.Visited.{Visited}
 use Rattle.nx_nav.specs.Nodes.{CanStand}
 use Rattle.nx_nav.specs.Visited.{HasVisited}
-use Rattle.nx_nav.specs.Refusals.{HoldsNoneWith, IsRefused}
+use Rattle.nx_nav.specs.Refusals.{OfEach, HoldsNoneWith, IsRefused}
 use Rattle.nx_nav.specs.Steps.{WalkStep, walk_steps, laid_steps, steps_of}
 use Rattle.nx_nav.specs.Walk.{HasTold, HasStopped, IsNone, IsIntervalAt, TellsDocument, StopsWithin}
 use Rattle.nx_nav.proofs.NodeLemmas.{document_stands}
@@ -56,10 +56,10 @@ module _ {D : Type 0} (d : Ghosts D) (Unwritten : Type 0) (r0 r1 : Records) (x y
       refused_later d ⊥ Unwritten (IsSome (d.contents y) → HoldsNoneWith d r0 x root left) r0 r0 r1 x x y (leaves_same refl) (λ ended. refl) (omega arith) (λ bad. bad) (λ u. u) (none_such y left v fresh) e refused
 
 -- a call that asked the disk alone gave up for what it says
-pub asked_refused : {D : Type 0} (d : Ghosts D) (r0 r1 : Records) (x y : D) (root : RecordPlace) (left : ℕ) (e : NavError) → IsStill d x y
-    → IsRefused d ⊥ ⊥ (IsSome (d.contents y) → HoldsNoneWith d r0 x root left) e r0 r1 x y → IsRefused d ⊥ ⊥ (HoldsNoneWith d r0 x root left) e r0 r1 x y
-asked_refused d r0 r1 x y root left e still refused =
-    refused_later d ⊥ ⊥ (HoldsNoneWith d r0 x root left) r0 r0 r1 x x y (leaves_same refl) (λ ended. refl) (omega arith) (λ bad. bad) (λ bad. bad) (λ none document h. none (document_seen still h) document h) e refused
+pub asked_refused : {D : Type 0} (d : Ghosts D) (Nowhere : Type 0) (P : CutTree → Type 0) (r0 r1 : Records) (x y : D) (root : RecordPlace) (e : NavError) → IsStill d x y
+    → IsRefused d Nowhere ⊥ (IsSome (d.contents y) → OfEach d r0 x root P) e r0 r1 x y → IsRefused d Nowhere ⊥ (OfEach d r0 x root P) e r0 r1 x y
+asked_refused d Nowhere P r0 r1 x y root e still refused =
+    refused_later d Nowhere ⊥ (OfEach d r0 x root P) r0 r0 r1 x x y (leaves_same refl) (λ ended. refl) (omega arith) (λ nowhere. nowhere) (λ bad. bad) (λ none document h. none (document_seen still h) document h) e refused
 
 module _ {A D : Type 0} {d : Ghosts D} {asked : Bool} {Told : A → D → List WalkStep → A → D → Type 0} {r0 : Records} {x : D} {root : RecordPlace} {a : A} where
   -- all was told, and the teller paused at the end

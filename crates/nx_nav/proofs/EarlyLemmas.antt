@@ -71,16 +71,24 @@ module _ {D : Type 0} {d : Ghosts D} where
   pub first_stays : {r : Records} {proxies : List Proxy} (x y z : D) → d.reads z ≤ d.reads y → ReadsFirstOf d r x y proxies → ReadsFirstOf d r x z proxies
   first_stays x y z less (proxy, more, are, piece) = (proxy, more, are, piece_stays x y z less piece)
 
--- the first child that proxies stand for
-first_root : (roots : ℕ) (beside behind : List PieceChild) → 1 ≤ roots → slice_get ((roots_from 0 0 roots ++ beside) ++ behind) 0 ≡ Some (locate.Kept 0 0)
-first_root zero beside behind some = absurd (omega (arith, some))
-first_root (suc roots) beside behind some = refl
+-- ... than a gap, where no more was read behind it
+pub gap_stays : {D : Type 0} {d : Ghosts D} {r : Records} {near depth : ℕ} (x y z : D) (items : Gapped) (proxies : List Proxy) → d.reads z ≤ d.reads y → ReadsAtMost near (d.reads x) (d.reads y) ((depth ≡ 257) × ReadsGap d r x y items proxies)
+    → (d.reads z ≤ d.reads x) ⊎ ReadsGap d r x z items proxies
+gap_stays x y z items proxies less (inl few) = inl (omega (arith, few, less))
+gap_stays x y z items proxies less (inr (low, (deep, gap))) = inr (gap.0, first_stays x y z less gap.1)
 
-first_kept : (below : Gapped) (proxy : Proxy) (more : List Proxy) → AreApart below → BeginsGap below → HaveRoots (proxy ∷ more) → slice_get (children_of (proxy ∷ more) 0 below) 0 ≡ Some (locate.Kept 0 0)
-first_kept End proxy more apart gap have = absurd gap
-first_kept (Grow node below beside) proxy more apart gap have = absurd gap
-first_kept (Gap zero beside) proxy more apart gap have = absurd (let some : 1 ≤ 0 = apart.0 in omega (arith, some))
-first_kept (Gap (suc count) beside) proxy more apart gap have = first_root proxy.roots (kept_from 1 (take count more)) (children_of (proxy ∷ more) (0 + suc count) beside) have.0
+-- the first child that proxies stand for
+first_root : (index roots : ℕ) (beside behind : List PieceChild) → 1 ≤ roots → slice_get ((roots_from index 0 roots ++ beside) ++ behind) 0 ≡ Some (locate.Kept index 0)
+first_root index zero beside behind some = absurd (omega (arith, some))
+first_root index (suc roots) beside behind some = refl
+
+pub first_kept : (proxies : List Proxy) (first : ℕ) (below : Gapped) (proxy : Proxy) (more : List Proxy) → drop first proxies ≡ proxy ∷ more → AreApart below → BeginsGap below → 1 ≤ proxy.roots → slice_get (children_of proxies first below) 0 ≡ Some (locate.Kept first 0)
+first_kept proxies first End proxy more are apart gap some = absurd gap
+first_kept proxies first (Grow node below beside) proxy more are apart gap some = absurd gap
+first_kept proxies first (Gap zero beside) proxy more are apart gap some = absurd (let none : 1 ≤ 0 = apart.0 in omega (arith, none))
+first_kept proxies first (Gap (suc count) beside) proxy more are apart gap some =
+    let behind = children_of proxies (first + suc count) beside in
+    ap (λ ps. slice_get (kept_from first (take (suc count) ps) ++ behind) 0) are ∙ first_root first proxy.roots (kept_from (first + 1) (take count more)) behind some
 
 -- where the path to it leads
 leads_outside : (roots : Gapped) (proxies : List Proxy) (node : PieceNode) (below beside : Gapped) (proxy : Proxy) (more : List Proxy) → roots ≡ Grow node below beside → proxies ≡ proxy ∷ more → AreApart roots → BeginsGap below → HaveRoots proxies
@@ -89,7 +97,7 @@ leads_outside roots proxies node below beside proxy more are is apart gap have =
     let both : AreApart (Grow node below beside) = subst AreApart are apart in
     let some : HaveRoots (proxy ∷ more) = subst HaveRoots is have in
     let own : reached (proxy ∷ more) 0 (0 ∷ []) (slice_get (children_of (proxy ∷ more) 0 (Grow node below beside)) 0) ≡ Outside 0 0 1 =
-    ap (λ (child : Option PieceChild). reached (proxy ∷ more) 1 [] child) (first_kept below proxy more both.0 gap some) in
+    ap (λ (child : Option PieceChild). reached (proxy ∷ more) 1 [] child) (first_kept (proxy ∷ more) 0 below proxy more refl both.0 gap some.0) in
     subst (λ (f : Gapped). reached proxies 0 (0 ∷ []) (slice_get (children_of proxies 0 f) 0) ≡ Outside 0 0 1) (sym are)
     (subst (λ (ps : List Proxy). reached ps 0 (0 ∷ []) (slice_get (children_of ps 0 (Grow node below beside)) 0) ≡ Outside 0 0 1) (sym is) own)
 

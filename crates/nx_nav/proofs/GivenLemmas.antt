@@ -1,5 +1,7 @@
 -- A block of which a first part was given, and the text of a document that was.
-use Rattle.std.proofs.Common.{◌≡◌, ℕ, true, List, [], ◌++◌, take, drop, Option, None, Some, sym, ap, ◌∙◌, subst, arith, append_assoc, append-nil}
+use Rattle.std.proofs.Common.{◌≡◌, ℕ, true, List, [], ◌++◌, take, drop, Option, None, Some, sym, ap, ◌∙◌, subst, arith, inl, inr, append_assoc, append-nil}
+use Rattle.std.specs.Prelude.{◌⊎◌}
+use Rattle.std.specs.Option.{MatchOption}
 use Rattle.std.proofs.lemmas.List.{take-append-drop}
 use Rattle.std.proofs.lemmas.List.Concat.{flat_map-append}
 use Rattle.nx_host.specs.Disk.{Keeps}
@@ -10,14 +12,18 @@ use Rattle.nx_host.specs.Time.{elapsed_weaker}
 use Rattle.nx_host.proofs.DiskLemmas.{keeps_self}
 use Rattle.nx_host.proofs.OutputLemmas.{prefix_more}
 use Rattle.nx_records.specs.declared.records.Records.{Records}
-use Rattle.nx_pyx.specs.Text.{text}
+use Rattle.nx_tree.specs.Forest.{OrderedTree}
+use Rattle.nx_tree.specs.Edit.{at}
+use Rattle.nx_pyx.specs.Text.{text, tree_text}
 use Rattle.nx_cuts.specs.Cut.{CutTree, tree_of}
 use Rattle.nx_layouts.specs.Layout.{RecordPlace}
 use Rattle.nx_hold.specs.Documents.{HasDocument}
+use Rattle.nx_nav.specs.Below.{TellsTree}
 use Rattle.nx_nav.specs.Given.{AsksAndGives, AppendsBut, GivesWithin, GivesText}
 use Rattle.nx_nav.specs.GivenLaws.{within_more}
 use Rattle.nx_nav.specs.Steps.{WalkStep, steps_of}
 use Rattle.nx_nav.specs.Told.{walk_step_text, told_text}
+use Rattle.nx_nav.proofs.BelowLemmas.{has_tree_text}
 use Rattle.nx_nav.proofs.TextLemmas.{has_text}
 
 -- what isn't given of a prefix is left
@@ -39,6 +45,28 @@ module _ {D : Type 0} (d : Ghosts D) {r : Records} {was : D} {root : RecordPlace
       append_assoc now (told_text told) (told_text more) ∙ ap (λ w. w ++ (told_text told ++ told_text more)) same
       ∙ ap (λ w. block ++ w) (sym (flat_map-append walk_step_text told more) ∙ ap told_text (sym first) ∙ has_text h) in
       subst (λ w. GivesWithin d w x y) whole (within_more d (now ++ told_text told) (told_text more) x y within)
+
+-- the same of the tree at a path
+module _ {D : Type 0} (d : Ghosts D) {r : Records} {was : D} {root : RecordPlace} {document : CutTree} (h : HasDocument d r was root document) (now block : List ℕ) (same : now ≡ block) (path : List ℕ) (told : List WalkStep) where
+  pub tree_gives : (left : List ℕ) (old new : Option (List ℕ)) (tree : OrderedTree) → at (tree_of document) path ≡ Some tree → TellsTree true tree told → AppendsBut (now ++ told_text told) left old new → AppendsBut (block ++ tree_text tree) left old new
+  tree_gives left old new tree is tells gives =
+      let whole : now ++ told_text told ≡ block ++ tree_text tree = ap (λ w. w ++ told_text told) same ∙ ap (λ w. block ++ w) (has_tree_text h path tree told is tells) in
+      subst (λ w. AppendsBut w left old new) whole gives
+
+  pub tree_within : (x y : D) → (told ≡ []) ⊎ ((tree : OrderedTree) × (at (tree_of document) path ≡ Some tree) × ((all more : List WalkStep) × TellsTree true tree all × (all ≡ told ++ more))) → GivesWithin d (now ++ told_text told) x y
+      → MatchOption (at (tree_of document) path) (GivesWithin d block x y) (λ tree. GivesWithin d (block ++ tree_text tree) x y)
+  tree_within x y (inl none) within =
+      each (at (tree_of document) path) (subst (λ w. GivesWithin d w x y) (ap (λ s. now ++ told_text s) none ∙ append-nil now ∙ same) within)
+    where
+      each : (o : Option OrderedTree) → GivesWithin d block x y → MatchOption o (GivesWithin d block x y) (λ tree. GivesWithin d (block ++ tree_text tree) x y)
+      each None own = own
+      each (Some tree) own = within_more d block (tree_text tree) x y own
+  tree_within x y (inr (tree, is, (all, more, tells, front))) within =
+      let whole : (now ++ told_text told) ++ told_text more ≡ block ++ tree_text tree =
+      append_assoc now (told_text told) (told_text more) ∙ ap (λ w. w ++ (told_text told ++ told_text more)) same
+      ∙ ap (λ w. block ++ w) (sym (flat_map-append walk_step_text told more) ∙ ap told_text (sym front) ∙ has_tree_text h path tree all is tells) in
+      subst (λ o. MatchOption o (GivesWithin d block x y) (λ tree. GivesWithin d (block ++ tree_text tree) x y)) (sym is)
+      (subst (λ w. GivesWithin d w x y) whole (within_more d (now ++ told_text told) (told_text more) x y within))
 
 module _ {D : Type 0} {d : Ghosts D} where
   alone_gives : {bytes : List ℕ} {x y : D} → GivesAlone d bytes x y → AsksAndGives d x y

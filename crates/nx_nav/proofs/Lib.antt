@@ -17,3 +17,4 @@ mod GivenLemmas
 mod NodeLemmas
 mod VisitLemmas
 mod EarlyLemmas
+mod BelowLemmas

@@ -4,9 +4,10 @@ use Rattle.std.specs.Prelude.{◌||◌, IsTrue, option_and_then}
 use Rattle.nx_tree.specs.declared.node.Kind.{Kind}
 use Rattle.nx_tree.specs.declared.node.Kind.TheVariants.{Doc, Element, Attribute, Text, Instruction}
 use Rattle.nx_tree.specs.declared.node.Node.{Node}
-use Rattle.nx_tree.specs.Forest.{Forest, Empty, Plant, OrderedTree}
+use Rattle.nx_tree.specs.Forest.{Forest, Empty, Plant, OrderedTree, nodes}
 use Rattle.nx_tree.specs.Document.{HasParts, is_element, is_instruction, MayHave, IsTop, IsDocument, depth, deepest}
 use Rattle.nx_tree.specs.Edit.{child, at, has_children}
+use Rattle.nx_tree.proofs.PlaceLemmas.{nodes-child}
 use Rattle.nx_tree.proofs.SoundLemmas.{IsTree, child_tree, depth_child}
 use Rattle.nx_piece.specs.PieceNode.{content_length}
 use Rattle.nx_cuts.specs.Cut.{joined}
@@ -95,12 +96,16 @@ child_top Empty position t h e = absurd (cc)
 child_top (Plant node below beside) zero t h e = let same : record { node = node; below = below } ≡ t = some_same e in subst (λ (x : OrderedTree). IsTrue (is_element x.node.kind || is_instruction x.node.kind)) same h.0
 child_top (Plant node below beside) (suc position) t h e = child_top beside position t h.1 e
 
+-- it is one below the root
+tree_below : (tree : OrderedTree) (position : ℕ) (path : List ℕ) (found : OrderedTree) → IsDocument tree → at tree (position ∷ path) ≡ Some found → IsTree found
+tree_below tree position path found h e = found_from IsTree path (child tree.below position) found (λ t is on. tree_at t path found (child_tree tree.below position t h.forest is) on) e
+
 -- the node at a path has come
 pub found_has_come : (tree : OrderedTree) (path : List ℕ) (found : OrderedTree) → IsDocument tree → at tree path ≡ Some found → HasCome (length path) found.node found.below
 found_has_come tree [] found h e =
     subst (λ (t : OrderedTree). HasCome 0 t.node t.below) (some_same e) (first_stands 0 tree.node tree.below Empty (document_stands tree h)).0
 found_has_come tree (position ∷ path) found h e =
-    let there = found_from IsTree path (child tree.below position) found (λ t is on. tree_at t path found (child_tree tree.below position t h.forest is) on) e in
+    let there = tree_below tree position path found h e in
     record {
       be = record { root = λ e. absurd (omega arith); top = at_top path e; below = λ _. there.node };
       have = none_below found.node.kind found.below there.has;
@@ -110,12 +115,27 @@ found_has_come tree (position ∷ path) found h e =
     at_top [] there one = child_top tree.below position found h.top (sym (at_here (child tree.below position)) ∙ there)
     at_top (next ∷ path) there one = absurd (omega arith)
 
--- a path that leads to a node has no more positions than there are levels
-path_within : (path : List ℕ) (tree found : OrderedTree) → at tree path ≡ Some found → length path ≤ depth tree.below
-path_within [] tree found e = omega arith
+-- a document may have it there, with all below it
+pub found_stands : (tree : OrderedTree) (path : List ℕ) (found : OrderedTree) → IsDocument tree → at tree path ≡ Some found → CanStand (length path) (Plant found.node found.below Empty)
+found_stands tree [] found h e = subst (λ (t : OrderedTree). CanStand 0 (Plant t.node t.below Empty)) (some_same e) (document_stands tree h)
+found_stands tree (position ∷ path) found h e =
+    let there = tree_below tree position path found h e in
+    let come = found_has_come tree (position ∷ path) found h e in
+    record { rooted = λ e. absurd (omega arith); top = λ one. ((come.be).top one, tt); forest = λ _. (there.node, there.has, there.forest, tt) }
+
+-- a path that leads to a node has no more positions than there are levels above those below it
+pub path_within : (path : List ℕ) (tree found : OrderedTree) → at tree path ≡ Some found → length path + depth found.below ≤ depth tree.below
+path_within [] tree found e = let same = ap (λ (t : OrderedTree). depth t.below) (some_same e) in omega arith
 path_within (position ∷ path) tree found e =
-    found_from (λ _. length (position ∷ path) ≤ depth tree.below) path (child tree.below position) found
+    found_from (λ _. length (position ∷ path) + depth found.below ≤ depth tree.below) path (child tree.below position) found
     (λ t is there. let deeper = depth_child tree.below position t is in let rest = path_within path t found there in omega arith) e
+
+-- and no more nodes stand below it than below the root
+pub nodes_within : (path : List ℕ) (tree found : OrderedTree) → at tree path ≡ Some found → nodes found.below ≤ nodes tree.below
+nodes_within [] tree found e = let same = ap (λ (t : OrderedTree). nodes t.below) (some_same e) in omega arith
+nodes_within (position ∷ path) tree found e =
+    found_from (λ _. nodes found.below ≤ nodes tree.below) path (child tree.below position) found
+    (λ t is there. let fewer = nodes-child tree.below position t is in let rest = nodes_within path t found there in omega arith) e
 
 none_found : {A : Type 0} (o : Option A) → ((x : A) → o ≡ Some x → ⊥) → o ≡ None
 none_found None never = refl

@@ -1,5 +1,7 @@
 -- What a call knows that has read one record: its piece is that of the interval, or there is no such interval.
-use Rattle.std.proofs.Common.{◌≡◌, ◌<◌, ◌≤◌, ℕ, Option, refl, sym, ap, ◌∙◌, subst, arith}
+use Rattle.std.proofs.Common.{◌≡◌, ◌+◌, ◌*◌, ◌<◌, ◌≤◌, ℕ, length, false, Option, refl, sym, ap, ◌∙◌, subst, arith, inl, inr}
+use Rattle.std.proofs.lemmas.Bool.Decides.{nat_tests}
+use Rattle.std.specs.Prelude.{nat_le}
 use Rattle.std.specs.Prelude.{IsSome}
 use Rattle.std.specs.Option.{MatchOption}
 use Rattle.nx_host.specs.Disk.{Image, Keeps}
@@ -7,7 +9,7 @@ use Rattle.nx_host.specs.declared.disk.Disk.{Ghosts}
 use Rattle.nx_host.specs.Still.{IsStill}
 use Rattle.nx_host.proofs.DiskLemmas.{none_still, settled_kept}
 use Rattle.nx_holdings.specs.declared.header.Settings.{Settings}
-use Rattle.nx_holdings.specs.Holdings.{Held}
+use Rattle.nx_holdings.specs.Holdings.{Held, chain_count}
 use Rattle.nx_records.specs.declared.records.Records.{Records}
 use Rattle.nx_records.specs.declared.error.StoreError.{StoreError}
 use Rattle.nx_records.specs.declared.error.StoreError.TheVariants as store
@@ -17,11 +19,17 @@ use Rattle.nx_records.proofs.LeaveLemmas.{leaves_stand}
 use Rattle.nx_piece.specs.Gapped as gapped
 use Rattle.nx_piece.specs.Gapped.{Gapped}
 use Rattle.nx_piece.specs.declared.piece.Piece.{Piece}
+use Rattle.nx_piece.specs.declared.piece.Stored.TheVariants.{Inline, Chained}
+use Rattle.nx_piece.specs.Valid.{inline_length, longest_inline}
 use Rattle.nx_cuts.specs.Cut.{CutForest, CutTree, Bare, Grown, Kept, forest, width, AreFree, tree_of}
 use Rattle.nx_layouts.specs.Layout.{RecordPlace, Layout, laid_near, laid_forest, piece_body, piece_of, AreHeld, AreLaidParts}
 use Rattle.nx_layouts.proofs.DrawnLemmas.{drawn_free}
 use Rattle.nx_hold.specs.Documents.{HasDocument}
+use Rattle.nx_hold.specs.Changes.{TakesPages, chain_pages}
+use Rattle.nx_hold.proofs.PieceLemmas.{one_at, no_both, count_same}
+use Rattle.nx_hold.proofs.PutLemmas.{pages_chained}
 use Rattle.nx_hold.specs.Pieces.{HoldsPiece, HoldsNone, held_by}
+use Rattle.nx_nav.specs.Along.{ReadsPiece}
 use Rattle.nx_nav.specs.Parts.{HasLayout, HasInterval, HasNoInterval}
 use Rattle.nx_nav.specs.declared.error.NavError.{NavError}
 use Rattle.nx_nav.specs.Refusals.{IsRefused, StopsReading, IsPassedOn}
@@ -155,3 +163,24 @@ layout_goes {r0 = r0} {r1 = r1} same stands layout h = record {
   held = h.held;
   light = h.light;
 }
+
+over_most : (n most : ℕ) → most < n → nat_le n most ≡ false
+over_most n most over = grind (arith, nat_tests)
+
+-- so many pages are read for a piece that a record holds, and no more
+takes_few : (now : Held) (place : RecordPlace) (piece : Piece) (pages : ℕ) → HoldsPiece now place piece → TakesPages now place pages → pages ≤ 1 + chain_pages piece
+takes_few now place piece pages holds (inl one) = omega (arith, one)
+takes_few now place piece pages (inl inline) (inr (count, chain, names, are)) = absurd (no_both piece names.0 count chain (one_at now place (Inline piece) (Chained names.0 count chain) inline names.1))
+takes_few now place piece pages (inr chained) (inr (count, chain, names, are)) =
+    let e = one_at now place (Chained piece.body (length piece.proxies) chained.chain) (Chained names.0 count chain) chained.stored names.1 in
+    let n : length piece.proxies ≡ count = count_same piece.body names.0 (length piece.proxies) count chained.chain chain e in
+    let long : longest_inline < inline_length piece.body.roots (length piece.proxies) = (chained.stored).valid.long in
+    let own = pages_chained piece (over_most (inline_length piece.body.roots (length piece.proxies)) longest_inline long) in
+    let same = ap (λ (k : ℕ). chain_count (8 * k)) n in
+    omega (arith, are, own, same)
+
+pub piece_few : {D : Type 0} {d : Ghosts D} {r : Records} {x y : D} {place : RecordPlace} {members : Layout} (own : ReadsPiece d r x y place) → HasInterval d r x place members → d.reads y ≤ d.reads x + (1 + chain_pages (piece_of members))
+piece_few {place = place} {members = members} own h =
+    let few = own.1 in
+    let takes = takes_few h.now place (piece_of members) own.0 (interval_held h) (own.2 h.saved h.now h.stands) in
+    omega (arith, few, takes)

@@ -25,7 +25,7 @@ use Rattle.nx_piece.specs.Gapped.{Gapped, GappedTree}
 use Rattle.nx_piece.specs.Valid.{IsValidPiece}
 use Rattle.nx_piece.specs.Locate.{Reached, Inside, Outside, Missing, reached_in, children_of}
 use Rattle.nx_cuts.specs.Cut.{CutTree, Bare, Grown, Kept, width, tree_of}
-use Rattle.nx_layouts.specs.Layout.{RecordPlace, Layout, laid_near, laid_forest, shown_with, proxy_of, proxies_of, piece_of, IsReadIn}
+use Rattle.nx_layouts.specs.Layout.{RecordPlace, LaidNode, Layout, laid_near, laid_forest, shown_with, proxy_of, proxies_of, piece_of, IsReadIn}
 use Rattle.nx_layouts.proofs.NodeLemmas.{items_show_nodes}
 use Rattle.nx_hold.specs.Pieces.{HoldsPiece, NamesContent, held_by}
 use Rattle.nx_hold.specs.Changes.{TakesPages, place_named}
@@ -33,6 +33,7 @@ use Rattle.nx_hold.specs.Documents.{HasDocument}
 use Rattle.nx_hold.proofs.PieceLemmas.{some_same}
 use Rattle.nx_nav.specs.declared.error.NavError.{NavError}
 use Rattle.nx_nav.specs.declared.finding.Found.{Found}
+use Rattle.nx_nav.specs.Pages.{laid_at}
 use Rattle.nx_nav.specs.Along.{LeadsThrough, TakePages, ReadsPiece, ReadsAlong, ReadsShown, IsNamedAlong}
 use Rattle.nx_nav.specs.Parts.{HasInterval, HasNoInterval, IsPieceAt}
 use Rattle.nx_nav.specs.Refusals.{OfEach, HoldsNoDocument, IsRefused}
@@ -41,20 +42,21 @@ use Rattle.nx_nav.specs.Shows.{FindsNode, CanBeFound, found_node}
 use Rattle.nx_nav.proofs.NodeLemmas.{found_has_come, item_can_be}
 use Rattle.nx_nav.proofs.RefusalLemmas.{refused_later, still_runs}
 use Rattle.nx_nav.proofs.PartLemmas.{interval_held, layout_later, later_same, layout_of, part_same, document_held, document_same, document_forest}
-use Rattle.nx_nav.proofs.ChildLemmas.{at_member, IsEnd, interval_end, children_counted, trees-forest, trees-length, path_falls, named_there}
+use Rattle.nx_nav.proofs.ChildLemmas.{at_member, drawn_member, IsEnd, interval_end, children_counted, trees-forest, trees-length, path_falls, named_there}
 
 -- what is left of a list behind so many of its elements
 pub part_left : {A : Type 0} (xs : List A) (n : ℕ) → take (length xs - n) (drop n xs) ≡ drop n xs
 part_left xs n = take_all (length xs - n) (drop n xs) (let l = length-drop n xs in omega arith)
 
 -- The path leads on from a member of the interval with the record at this place.
-pub record LeadsOn {D : Type 0} (d : Ghosts D) (records : Records) (disk : D) (held : Held) (place : RecordPlace) (roots member : ℕ) (rest : List ℕ) (found : Option OrderedTree) : Type 0 where
+pub record LeadsOn {D : Type 0} (d : Ghosts D) (records : Records) (disk : D) (held : Held) (place : RecordPlace) (roots member : ℕ) (rest : List ℕ) (found : Option OrderedTree) (drawn : Option (LaidNode × Layout)) : Type 0 where
   pub members : Layout
   pub there : HasInterval d records disk place members
   pub of : there.now ≡ held
   pub as_many : width members ≡ roots
   pub within : member < width members
   pub same : found ≡ at_member (laid_forest members) member rest
+  pub drawn_same : drawn ≡ drawn_member members member rest
 
 -- Where the path leads through records from here on, it leads through them from the root on, with so many records and pages before them.
 abbrev pub IsThere : Held → RecordPlace → List ℕ → RecordPlace → ℕ → List ℕ → (levels pages : ℕ) → Type 0
@@ -67,7 +69,7 @@ pub record IsSeeking {D : Type 0} (d : Ghosts D) (r0 r1 : Records) (x0 x1 : D) (
   pub stays : LeavesRecords r0 r1
   pub still : IsStill d x0 x1
   pub alone : has_ended r0 ≡ true → x1 ≡ x0
-  pub on : (document : CutTree) (h : HasDocument d r0 x0 root document) → LeadsOn d r1 x1 h.now place roots member rest (at (tree_of document) path)
+  pub on : (document : CutTree) (h : HasDocument d r0 x0 root document) → LeadsOn d r1 x1 h.now place roots member rest (at (tree_of document) path) (laid_at h path)
   pub pages : ℕ
   pub few : d.reads x1 ≤ d.reads x0 + pages
   pub levels : ℕ
@@ -87,6 +89,7 @@ module _ {D : Type 0} {d : Ghosts D} {r0 : Records} {x0 : D} {root : RecordPlace
       as_many = refl;
       within = omega arith;
       same = ap (λ (f : Forest). let t : OrderedTree = record { node = document.node; below = f } in at t path) (sym (document_forest h));
+      drawn_same = refl;
     };
     pages = 0;
     few = omega arith;
@@ -105,16 +108,17 @@ module _ {D : Type 0} {d : Ghosts D} {r0 : Records} {x0 : D} {root : RecordPlace
   module _ {r1 : Records} {x1 : D} {place : RecordPlace} {roots member : ℕ} {rest : List ℕ} (seeking : IsSeeking d r0 r1 x0 x1 root path place roots member rest)
       (piece : Piece) (is : IsPieceAt d r1 x1 place roots piece) where
     -- where the path leads in the piece that was read
-    leads : (document : CutTree) (h : HasDocument d r0 x0 root document) (end : Reached) → reached_in piece member rest ≡ end
-        → let on = seeking.on document h in IsEnd (held_by on.there.pieces) (on.there.now.settings).k (proxies_of on.members) 0 rest end (at (tree_of document) path)
+    pub leads : (document : CutTree) (h : HasDocument d r0 x0 root document) (end : Reached) → reached_in piece member rest ≡ end
+        → let on = seeking.on document h in IsEnd (held_by on.there.pieces) (on.there.now.settings).k (proxies_of on.members) 0 rest end (at (tree_of document) path) (laid_at h path)
     leads document h end e =
         let on = seeking.on document h in
         let there = on.there in
         let same : piece ≡ piece_of on.members = is on.members there on.as_many in
         let ends = interval_end (held_by there.pieces) (there.now.settings).k place on.members member rest there.held there.light in
-        let Ends : Reached → Option OrderedTree → Type 0 = λ r o. IsEnd (held_by there.pieces) (there.now.settings).k (proxies_of on.members) 0 rest r o in
-        subst (λ r. Ends r (at (tree_of document) path)) (ap (λ (p : Piece). reached_in p member rest) (sym same) ∙ e)
-        (subst (λ o. Ends (reached_in (piece_of on.members) member rest) o) (sym on.same) ends)
+        let Ends : Reached → Option OrderedTree → Option (LaidNode × Layout) → Type 0 = λ r o t. IsEnd (held_by there.pieces) (there.now.settings).k (proxies_of on.members) 0 rest r o t in
+        subst (λ r. Ends r (at (tree_of document) path) (laid_at h path)) (ap (λ (p : Piece). reached_in p member rest) (sym same) ∙ e)
+        (subst (λ o. Ends (reached_in (piece_of on.members) member rest) o (laid_at h path)) (sym on.same)
+        (subst (λ t. Ends (reached_in (piece_of on.members) member rest) (at_member (laid_forest on.members) member rest) t) (sym on.drawn_same) ends))
 
     -- each document has it there
     pub piece_held : (document : CutTree) (h : HasDocument d r0 x0 root document) → HoldsPiece h.now place piece
@@ -205,6 +209,7 @@ module _ {D : Type 0} {d : Ghosts D} {r0 : Records} {x0 : D} {root : RecordPlace
           as_many = ap (λ (p : Proxy). p.roots) (sym named);
           within = inner.within;
           same = inner.is ∙ ap (λ (n : ℕ). at_member (laid_forest inner.members) next (drop n rest)) steps;
+          drawn_same = inner.drawn_is ∙ ap (λ (n : ℕ). drawn_member inner.members next (drop n rest)) steps;
         };
     pages = seeking.pages + pages;
     few = let was : d.reads x1 ≤ d.reads x0 + seeking.pages = seeking.few in omega (arith, was, few);

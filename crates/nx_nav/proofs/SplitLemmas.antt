@@ -21,6 +21,7 @@ use Rattle.nx_hold.specs.Changes.{place_named}
 use Rattle.nx_hold.specs.Pieces.{held_by}
 use Rattle.nx_nav.specs.Nodes.{CanStand}
 use Rattle.nx_nav.specs.Parts.{HasLayout}
+use Rattle.nx_nav.specs.Pages.{laid_pages}
 use Rattle.nx_nav.specs.Steps.{Begin, Close, begun_steps, laid_steps}
 use Rattle.nx_nav.specs.Walk.{AreIntervals, IsIntervalAt, IsTreeOf, AreOf, AreIntervalsOf}
 use Rattle.nx_nav.proofs.NodeLemmas.{stands_joined}
@@ -52,6 +53,11 @@ pub places-joined_layout : (a b : Layout) → places_of (joined_layout a b) ≡ 
 places-joined_layout Bare b = refl
 places-joined_layout (Grown n d s) b = ap (λ ps. places_of d ++ ps) (places-joined_layout s b) ∙ sym (append_assoc (places_of d) (places_of s) (places_of b))
 places-joined_layout (Kept p m s) b = ap (λ ps. p ∷ (places_of m ++ ps)) (places-joined_layout s b) ∙ ap (λ ps. p ∷ ps) (sym (append_assoc (places_of m) (places_of s) (places_of b)))
+
+pub pages-joined_layout : (a b : Layout) → laid_pages (joined_layout a b) ≡ laid_pages a + laid_pages b
+pages-joined_layout Bare b = omega arith
+pages-joined_layout (Grown n d s) b = let more = pages-joined_layout s b in omega (arith, more)
+pages-joined_layout (Kept p m s) b = let more = pages-joined_layout s b in omega (arith, more)
 
 pub joined-empty : (f : Forest) → joined f Empty ≡ f
 joined-empty Empty = refl
@@ -114,7 +120,7 @@ cons_parts : (x y : Proxy) (xs ys : List Proxy) → x ∷ xs ≡ y ∷ ys → (x
 cons_parts x y xs ys e = (cc, cc)
 
 -- what stands before and behind a part of a list
-drop_part : {A : Type 0} (front back : List A) (n : ℕ) → length front ≡ n → drop n (front ++ back) ≡ back
+pub drop_part : {A : Type 0} (front back : List A) (n : ℕ) → length front ≡ n → drop n (front ++ back) ≡ back
 drop_part front back n e = subst (λ (k : ℕ). drop k (front ++ back) ≡ back) e (there front back)
   where
     there : {A : Type 0} (front back : List A) → drop (length front) (front ++ back) ≡ back
@@ -153,6 +159,7 @@ module _ {D : Type 0} {asked : Bool} (d : Ghosts D) (r0 r1 : Records) (x0 x1 : D
         front_shallow = omega arith;
         behind_shallow = omega arith;
         stand = λ level stands. stands_joined level (Plant n.node (laid_forest b) Empty) (laid_forest s) stands;
+        pages_are = omega arith;
       }
 
   -- a row of intervals before the other items
@@ -181,6 +188,7 @@ module _ {D : Type 0} {asked : Bool} (d : Ghosts D) (r0 r1 : Records) (x0 x1 : D
         front_shallow = omega (arith, deep);
         behind_shallow = omega (arith, deep);
         stand = λ level stands. stands_joined level (laid_forest row.row) (laid_forest row.behind) (subst (λ (f : Forest). CanStand level f) trees stands);
+        pages_are = ap laid_pages row.whole ∙ pages-joined_layout row.row row.behind;
       }
 
   -- an interval before the others of a row
@@ -210,6 +218,7 @@ module _ {D : Type 0} {asked : Bool} (d : Ghosts D) (r0 r1 : Records) (x0 x1 : D
         stand = λ level stands.
             let two = stands_joined level (laid_forest m) (laid_forest s) stands in
             (subst (λ (f : Forest). CanStand level f) (sym (joined-empty (laid_forest m))) two.0, two.1);
+        pages_are = omega arith;
       }
 
 -- where no proxy is left there is no interval

@@ -27,9 +27,12 @@ use Rattle.nx_nav.specs.Nodes.{CanBeWith, CanBeTree, CanStand}
 use Rattle.nx_nav.specs.Visited.{HasVisited}
 use Rattle.nx_nav.specs.Parts.{HasLayout, HasNode, HasNoInterval, IsPieceAt}
 use Rattle.nx_nav.specs.Refusals.{IsRefused}
+use Rattle.nx_hold.specs.Contents.{far_pages}
+use Rattle.nx_nav.specs.Along.{ReadsPiece}
+use Rattle.nx_nav.specs.Pages.{laid_pages}
 use Rattle.nx_nav.specs.Steps.{WalkStep, Begin, Close, begun_steps, laid_steps}
-use Rattle.nx_nav.specs.Walk.{Visits, HasTold, HasStopped, TellsEach, StopsInEach, LacksEach, IsWalkable, IsNone, IsIntervalAt, IsTreeOf, AreOf}
-use Rattle.nx_nav.proofs.PartLemmas.{layout_of}
+use Rattle.nx_nav.specs.Walk.{Visits, ReadsNoMore, HasTold, HasStopped, TellsEach, StopsInEach, LacksEach, IsWalkable, IsNone, IsIntervalAt, IsTreeOf, AreOf}
+use Rattle.nx_nav.proofs.PartLemmas.{layout_of, piece_few}
 use Rattle.nx_nav.proofs.RefusalLemmas.{refused_later, still_runs}
 use Rattle.nx_nav.proofs.ChildLemmas.{trees-forest}
 use Rattle.nx_nav.proofs.NodeLemmas.{HasCome, first_stands, item_can_be}
@@ -94,8 +97,8 @@ node_refused d Unwritten r0 r1 x y tree proxies deep left v runs e refused =
 
 module _ {A D : Type 0} {d : Ghosts D} {Told : A → D → List WalkStep → A → D → Type 0} {Unwritten : D → D → Type 0} (asked : Bool) (teller : IsTeller d Told Unwritten) {a : A} {x : D} where
   -- it stops before anything is told
-  pub stops_at_once : (P : Layout → Type 0) (last : A) (y : D) → Told a x [] last y → HasStopped d asked Told P a x y
-  stops_at_once P last y goes = record { told = []; last = last; goes = goes; first = λ seen l p. (laid_steps asked l, refl) }
+  pub stops_at_once : (P : Layout → Type 0) (last : A) (y : D) → Told a x [] last y → ReadsNoMore d P x y → HasStopped d asked Told P a x y
+  stops_at_once P last y goes reads = record { told = []; last = last; goes = goes; first = λ seen l p. (laid_steps asked l, refl); reads = reads }
 
   -- a tree whose node has begun
   module _ (r0 r1 : Records) (tree : GappedTree) (proxies : List Proxy) (b : A) (y : D) (same : LeavesRecords r0 r1) (begun : TellsEach d Told (HasNode d r0 x tree.node) (begun_steps asked) a x b y) (v : Visited) where
@@ -108,6 +111,14 @@ module _ {A D : Type 0} {d : Ghosts D} {Told : A → D → List WalkStep → A �
         let has = told_stands teller {r0 = r0} {r1 = r1} begun.goes same seen (Grown p.0 p.1 Bare) (subst (λ (z : Layout). HasLayout d r0 x z) p.2 p.6) in
         (p.4, p.5, layout_of has p.1 has.held.1 has.light.0)
 
+    -- no more was read than for the node and what is below it
+    tree_reads : (z : D) → (IsSome (d.contents z) → IsSome (d.contents y)) → d.reads y ≤ d.reads x + far_pages tree.node → ReadsNoMore d (AreOf d r1 y tree.below proxies) y z → ReadsNoMore d (IsTreeOf d r0 x tree proxies) x z
+    tree_reads z earlier few reads seen l p =
+        let below : d.reads z ≤ d.reads y + laid_pages p.1 = reads seen p.1 (below_of (earlier seen) l p) in
+        let item = ap far_pages p.3 in
+        let all = ap laid_pages p.2 in
+        omega (arith, few, below, item, all)
+
     end_is : (l : Layout) (p : IsTreeOf d r0 x tree proxies l) → ◌≡◌ {A = WalkStep} (Close tree.node.node.kind tree.node.node.name) (Close p.0.node.kind p.0.node.name)
     end_is l p =
         let shows = items_show_nodes p.0 in
@@ -115,9 +126,9 @@ module _ {A D : Type 0} {d : Ghosts D} {Told : A → D → List WalkStep → A �
         let name : tree.node.node.name ≡ p.0.node.name = ap (λ (n : PieceNode). n.node.name) p.3 ∙ shows.name in
         cc
 
-    pub tree_told : (left rest : ℕ) (c e : A) (z : D) (w : Visited) → HasTold d asked Told (AreOf d r1 y tree.below proxies) b y (left - 1) v c z rest w → Told c z (Close tree.node.node.kind tree.node.node.name ∷ []) e z → 1 ≤ left
+    pub tree_told : (left rest : ℕ) (c e : A) (z : D) (w : Visited) → HasTold d asked Told (AreOf d r1 y tree.below proxies) b y (left - 1) v c z rest w → Told c z (Close tree.node.node.kind tree.node.node.name ∷ []) e z → 1 ≤ left → d.reads y ≤ d.reads x + far_pages tree.node
         → HasTold d asked Told (IsTreeOf d r0 x tree proxies) a x left v e z rest w
-    tree_told left rest c e z w has closed some = record {
+    tree_told left rest c e z w has closed some few = record {
       told = begun.told ++ (has.told ++ Close tree.node.node.kind tree.node.node.name ∷ []);
       goes = teller.join a b e x y z begun.told (has.told ++ Close tree.node.node.kind tree.node.node.name ∷ []) begun.goes (teller.join b c e y z z has.told (Close tree.node.node.kind tree.node.node.name ∷ []) has.goes closed);
       places = has.places;
@@ -134,10 +145,11 @@ module _ {A D : Type 0} {d : Ghosts D} {Told : A → D → List WalkStep → A �
             omega arith,
             all.2 ∙ sym (append-nil (places_of p.1)) ∙ ap places_of (sym p.2),
           );
+      reads = tree_reads z (told_earlier teller has.goes) few has.reads;
     }
 
-    pub tree_stops : (z : D) → HasStopped d asked Told (AreOf d r1 y tree.below proxies) b y z → HasStopped d asked Told (IsTreeOf d r0 x tree proxies) a x z
-    tree_stops z has = record {
+    pub tree_stops : (z : D) → HasStopped d asked Told (AreOf d r1 y tree.below proxies) b y z → d.reads y ≤ d.reads x + far_pages tree.node → HasStopped d asked Told (IsTreeOf d r0 x tree proxies) a x z
+    tree_stops z has few = record {
       told = begun.told ++ has.told;
       last = has.last;
       goes = teller.join a b has.last x y z begun.told has.told begun.goes has.goes;
@@ -152,15 +164,17 @@ module _ {A D : Type 0} {d : Ghosts D} {Told : A → D → List WalkStep → A �
                 ∙ ap (λ s. begun.told ++ s) (append_assoc has.told first.0 end)
                 ∙ sym (append_assoc begun.told has.told (first.0 ++ end)),
           );
+      reads = tree_reads z (told_earlier teller has.goes) few has.reads;
     }
 
-    pub tree_not_closed : (left rest : ℕ) (c : A) (z : D) (w : Visited) → HasTold d asked Told (AreOf d r1 y tree.below proxies) b y left v c z rest w → HasStopped d asked Told (IsTreeOf d r0 x tree proxies) a x z
-    tree_not_closed left rest c z w has = tree_stops z (record {
+    pub tree_not_closed : (left rest : ℕ) (c : A) (z : D) (w : Visited) → HasTold d asked Told (AreOf d r1 y tree.below proxies) b y left v c z rest w → d.reads y ≤ d.reads x + far_pages tree.node → HasStopped d asked Told (IsTreeOf d r0 x tree proxies) a x z
+    tree_not_closed left rest c z w has few = tree_stops z (record {
       told = has.told;
       last = c;
       goes = has.goes;
       first = λ seen l p. ([], sym (has.all seen l p).0 ∙ sym (append-nil has.told));
-    })
+      reads = has.reads;
+    }) few
 
     below_walkable : (deep left : ℕ) → deep ≤ 257 → (l : Layout) (p : IsTreeOf d r0 x tree proxies l) → IsWalkable deep left v l → IsWalkable (deep - 1) (left - 1) v p.1
     below_walkable deep left levels l p walkable =
@@ -187,8 +201,8 @@ module _ {A D : Type 0} {d : Ghosts D} {Told : A → D → List WalkStep → A �
 
   -- a tree whose node didn't begin
   module _ (r0 : Records) (tree : GappedTree) (proxies : List Proxy) (y : D) where
-    pub node_stops : StopsInEach d Told (HasNode d r0 x tree.node) (begun_steps asked) a x y → HasStopped d asked Told (IsTreeOf d r0 x tree proxies) a x y
-    node_stops has = record {
+    pub node_stops : StopsInEach d Told (HasNode d r0 x tree.node) (begun_steps asked) a x y → d.reads y ≤ d.reads x + far_pages tree.node → HasStopped d asked Told (IsTreeOf d r0 x tree proxies) a x y
+    node_stops has few = record {
       told = has.told;
       last = has.last;
       goes = has.goes;
@@ -198,12 +212,24 @@ module _ {A D : Type 0} {d : Ghosts D} {Told : A → D → List WalkStep → A �
             first.0 ++ rest,
             ap (laid_steps asked) p.2 ∙ ap (λ s. s ++ rest) first.1 ∙ append_assoc has.told first.0 rest,
           );
+      reads = λ seen l p.
+          let item = ap far_pages p.3 in
+          let all = ap laid_pages p.2 in
+          omega (arith, few, item, all);
     }
 
   -- an interval whose record was read
   module _ {b : A} {y z : D} (r0 r1 : Records) (place : RecordPlace) (roots : ℕ) (paused : Told a x [] b y) (still : IsStill d y z) where
     interval_there : IsSome (d.contents z) → (members : Layout) → HasLayout d r0 x (Kept place members Bare) → HasLayout d r0 y (Kept place members Bare)
     interval_there seen members has = told_stands teller {r0 = r0} {r1 = r0} paused (leaves_same refl) (subst (λ (o : Option Image). IsSome o) still.contents_stay seen) (Kept place members Bare) has
+
+    -- no more was read than its piece
+    pub interval_reads : (unread : d.reads y ≡ d.reads x) (own : ReadsPiece d r0 y z place) → ReadsNoMore d (IsIntervalAt d r0 x place roots) x z
+    interval_reads unread own seen l p =
+        let has = subst (λ (i : Layout). HasLayout d r0 x i) p.1 p.3 in
+        let few = piece_few own (interval_there seen p.0 has) in
+        let all = ap laid_pages p.1 in
+        omega (arith, unread, few, all)
 
     pub asked_on : Told a x [] b z
     asked_on = teller.join a b b x y z [] [] paused (teller.asked b y z still)
@@ -213,9 +239,9 @@ module _ {A D : Type 0} {d : Ghosts D} {Told : A → D → List WalkStep → A �
         refused_later d ⊥ (Unwritten x z) (IsNone d z (IsIntervalAt d r0 x place roots) deep left v) r0 r0 r1 x y z (leaves_same refl) (still_runs r0 runs) (teller.faults a b x y [] paused) (λ bad. bad) absurd
         (λ none seen l p walkable. none p.0 (interval_there seen p.0 (subst (λ (i : Layout). HasLayout d r0 x i) p.1 p.3)) p.2) e refused
 
-    pub interval_begins : (left weight : ℕ) (v w : Visited) (piece : Piece) (c : A) → Visits v (place ∷ []) w → LeavesRecords r0 r1 → IsPieceAt d r0 y place roots piece → weight ≡ gapped_weight piece.body.roots → Told b z (Begin roots weight ∷ []) c z
+    pub interval_begins : (left weight : ℕ) (v w : Visited) (piece : Piece) (c : A) → Visits v (place ∷ []) w → LeavesRecords r0 r1 → IsPieceAt d r0 y place roots piece → weight ≡ gapped_weight piece.body.roots → Told b z (Begin roots weight ∷ []) c z → d.reads y ≡ d.reads x → ReadsPiece d r0 y z place
         → IsOnWay d asked Told (IsIntervalAt d r0 x place roots) (AreOf d r1 z piece.body.roots piece.proxies) a x left v c z left w
-    interval_begins left weight v w piece c visits same is weighs begun = record {
+    interval_begins left weight v w piece c visits same is weighs begun unread own = record {
       told = Begin roots weight ∷ [];
       goes = teller.join a b c x z z [] (Begin roots weight ∷ []) asked_on begun;
       places = place ∷ [];
@@ -243,5 +269,9 @@ module _ {A D : Type 0} {d : Ghosts D} {Told : A → D → List WalkStep → A �
             shallow = omega arith;
             stands = λ level stands.
                 subst (λ (f : Forest). CanStand level f) (ap (λ (i : Layout). laid_forest i) p.1 ∙ joined-empty (laid_forest members)) stands;
+            pages_are =
+                let few = piece_few own (interval_there seen members has) in
+                let all = ap laid_pages p.1 in
+                omega (arith, unread, few, all);
           };
     }

@@ -12,18 +12,19 @@ use Rattle.nx_weights.specs.Weight.{longest_near}
 use Rattle.nx_tree.specs.declared.node.Kind.{Kind}
 use Rattle.nx_tree.specs.declared.node.Kind.TheVariants.{Doc, Element, Attribute, Text, Instruction}
 use Rattle.nx_tree.specs.declared.node.Node.{Node}
-use Rattle.nx_tree.specs.Forest.{Forest, Empty, Plant}
+use Rattle.nx_tree.specs.Forest.{Forest, Empty, Plant, OrderedTree}
 use Rattle.nx_tree.specs.Document.{is_doc, is_element, HasParts, MayHave, IsForest}
-use Rattle.nx_cuts.specs.Cut.{Cut, Bare, Grown, Kept, CutTree, joined, forest, tree_of}
+use Rattle.nx_cuts.specs.Cut.{Cut, Bare, Grown, Kept, CutForest, CutTree, joined, forest, tree_of}
 use Rattle.nx_layouts.specs.Layout.{RecordPlace}
 use Rattle.nx_hold.specs.Documents.{HasDocument}
 use Rattle.nx_pyx.specs.Event.{Event, Start, End, Single, events}
-use Rattle.nx_pyx.specs.Text.{canonical_line, node_line, escape, escaped, text_of, text}
+use Rattle.nx_pyx.specs.Text.{canonical_line, node_line, escape, escaped, text_of, text, tree_text}
 use Rattle.nx_pyx.specs.LineStart.{line_start}
 use Rattle.nx_pyx.proofs.StartLemmas.{line_by_start}
 use Rattle.nx_pyx.specs.Writer.{forest_text, end_line}
 use Rattle.nx_nav.specs.Steps.{WalkStep, Open, Head, Block, Tail, Close, blocks_within, content_blocks, content_steps, begun_steps, walk_steps, steps_of}
 use Rattle.nx_nav.specs.Told.{walk_step_text, told_text}
+use Rattle.nx_nav.specs.Nodes.{CanStand}
 
 told-append : (s t : List WalkStep) → told_text (s ++ t) ≡ told_text s ++ told_text t
 told-append s t = flat_map-append walk_step_text s t
@@ -116,6 +117,14 @@ told_forest (Kept p m s) h =
     told-append (walk_steps true m) (walk_steps true s) ∙ ap (λ x. x ++ told_text (walk_steps true s)) (told_forest m parts.0) ∙ ap (λ x. forest_text (forest m) ++ x) (told_forest s parts.1)
     ∙ sym (text-append (events (forest m)) (events (forest s))) ∙ ap text_of (sym (events-joined (forest m) (forest s)))
 
+-- a node below a root isn't one
+below_no_doc : (kind : Kind) (name content : List ℕ) → HasParts kind name content → is_doc kind ≡ false
+below_no_doc Doc name content parts = absurd parts
+below_no_doc Element name content parts = refl
+below_no_doc Attribute name content parts = refl
+below_no_doc Text name content parts = refl
+below_no_doc Instruction name content parts = refl
+
 -- a root has no content, and no line
 begun_root : (node : Node) → node.kind ≡ Doc → node.content ≡ [] → begun_steps true node ≡ Open node ∷ []
 begun_root node root bare = ap (λ (b : Bool). if b then Open node ∷ [] else Head node.kind node.name ∷ (content_steps true node.content ++ Tail ∷ [])) (ap (λ (x : List ℕ). nat_le (length x) longest_near) bare)
@@ -136,3 +145,18 @@ document_text t root bare h =
 
 pub has_text : {D : Type 0} {d : Ghosts D} {records : Records} {disk : D} {root : RecordPlace} {document : CutTree} → HasDocument d records disk root document → told_text (steps_of true document) ≡ text (tree_of document)
 has_text {document = document} h = document_text document h.laid.laid.is_document.root h.laid.laid.is_document.bare h.laid.laid.is_document.forest
+
+-- what is told of a node with all below it is its lines, wherever it stands
+pub below_text : (depth : ℕ) (node : Node) (below : CutForest) → CanStand depth (Plant node (forest below) Empty) → told_text (walk_steps true (Grown node below Bare)) ≡ tree_text (record { node = node; below = forest below })
+below_text zero node below stands =
+    let rooted = stands.rooted refl in
+    let root : node.kind ≡ Doc = (rooted.0).0 in
+    let tree : OrderedTree = record { node = node; below = forest below } in
+    let steps = walk_steps true (Grown node below Bare) in
+    ap told_text (sym (append-nil steps)) ∙ document_text (record { node = node; below = below }) root (rooted.0).2 rooted.2
+    ∙ ap (λ (k : Kind). if is_doc k then text tree else text_of (events (Plant node (forest below) Empty))) (sym root)
+below_text (suc depth) node below stands =
+    let inner = stands.forest (omega arith) in
+    let tree : OrderedTree = record { node = node; below = forest below } in
+    told_forest (Grown node below Bare) inner
+    ∙ ap (λ (b : Bool). if b then text tree else text_of (events (Plant node (forest below) Empty))) (sym (below_no_doc node.kind node.name node.content (inner.0).parts))

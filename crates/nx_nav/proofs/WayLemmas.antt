@@ -15,6 +15,7 @@ use Rattle.nx_layouts.specs.Layout.{RecordPlace, Layout, laid_forest, places_of,
 use Rattle.nx_nav.specs.declared.error.NavError.{NavError}
 use Rattle.nx_nav.specs.Parts.{HasLayout}
 use Rattle.nx_nav.specs.Refusals.{IsRefused}
+use Rattle.nx_nav.specs.Pages.{laid_pages}
 use Rattle.nx_nav.specs.Steps.{WalkStep, laid_steps}
 use Rattle.nx_nav.specs.Nodes.{CanStand}
 use Rattle.nx_nav.specs.Visited.{HasVisited}
@@ -24,7 +25,7 @@ use Rattle.nx_nav.proofs.PartLemmas.{stands_kept, layout_goes}
 use Rattle.nx_nav.proofs.RefusalLemmas.{refused_later, still_runs}
 
 -- So much of a layout is told, and this is left.
-pub record IsLeft (asked : Bool) (Q : Layout → Type 0) (told : List WalkStep) (places : List RecordPlace) (left now : ℕ) (layout : Layout) : Type 0 where
+pub record IsLeft (asked : Bool) (Q : Layout → Type 0) (told : List WalkStep) (places : List RecordPlace) (left now before here : ℕ) (layout : Layout) : Type 0 where
   pub rest : Layout
   pub is : Q rest
   pub steps_are : laid_steps asked layout ≡ told ++ laid_steps asked rest
@@ -32,6 +33,7 @@ pub record IsLeft (asked : Bool) (Q : Layout → Type 0) (told : List WalkStep) 
   pub nodes_are : left + nodes (laid_forest rest) ≡ now + nodes (laid_forest layout)
   pub shallow : depth (laid_forest rest) ≤ depth (laid_forest layout)
   pub stands : (level : ℕ) → CanStand level (laid_forest layout) → CanStand level (laid_forest rest)
+  pub pages_are : here + laid_pages rest ≤ before + laid_pages layout
 
 -- A layout is one before another.
 pub record IsSplit (asked : Bool) (P Q : Layout → Type 0) (layout : Layout) : Type 0 where
@@ -45,6 +47,7 @@ pub record IsSplit (asked : Bool) (P Q : Layout → Type 0) (layout : Layout) : 
   pub front_shallow : depth (laid_forest front) ≤ depth (laid_forest layout)
   pub behind_shallow : depth (laid_forest behind) ≤ depth (laid_forest layout)
   pub stand : (level : ℕ) → CanStand level (laid_forest layout) → CanStand level (laid_forest front) × CanStand level (laid_forest behind)
+  pub pages_are : laid_pages layout ≡ laid_pages front + laid_pages behind
 
 -- Of each layout that P speaks of as much is told, and what is left is one that Q speaks of, where the disk's contents are told.
 pub record IsOnWay {A D : Type 0} (d : Ghosts D) (asked : Bool) (Told : A → D → List WalkStep → A → D → Type 0) (P Q : Layout → Type 0) (old : A) (before : D) (left : ℕ) (visited : Visited) (now : A) (here : D) (rest : ℕ) (seen : Visited) : Type 0 where
@@ -52,7 +55,7 @@ pub record IsOnWay {A D : Type 0} (d : Ghosts D) (asked : Bool) (Told : A → D 
   pub goes : Told old before told now here
   pub places : List RecordPlace
   pub visits : Visits visited places seen
-  pub each : IsSome (d.contents here) → (layout : Layout) → P layout → IsLeft asked Q told places left rest layout
+  pub each : IsSome (d.contents here) → (layout : Layout) → P layout → IsLeft asked Q told places left rest (d.reads before) (d.reads here) layout
 
 -- what holds of a teller and its disks
 pub record IsTeller {A D : Type 0} (d : Ghosts D) (Told : A → D → List WalkStep → A → D → Type 0) (Unwritten : D → D → Type 0) : Type 0 where
@@ -72,9 +75,13 @@ pub visits_more : {u v w : Visited} {places more : List RecordPlace} → Visits 
 visits_more {w = w} {places = places} {more = more} first second earlier were = subst (HasVisited w) (append_assoc earlier places more) (second (earlier ++ places) (first earlier were))
 
 -- places before others come once
-once_left : (a b : List RecordPlace) → ArePlacedOnce (a ++ b) → ArePlacedOnce a
+pub once_left : (a b : List RecordPlace) → ArePlacedOnce (a ++ b) → ArePlacedOnce a
 once_left [] b h = tt
 once_left (x ∷ a) b h = (λ among. h.0 (Contains-append_left a b x among), once_left a b h.1)
+
+pub once_right : (a b : List RecordPlace) → ArePlacedOnce (a ++ b) → ArePlacedOnce b
+once_right [] b h = h
+once_right (x ∷ a) b h = once_right a b h.1
 
 once_front : (earlier places front behind : List RecordPlace) → ArePlacedOnce (earlier ++ (places ++ (front ++ behind))) → ArePlacedOnce ((earlier ++ places) ++ front)
 once_front earlier places front behind h =
@@ -99,7 +106,7 @@ module _ {A D : Type 0} {d : Ghosts D} {Told : A → D → List WalkStep → A �
       goes = teller.asked a x x none_still;
       places = [];
       visits = visits_none;
-      each = λ seen l p. record { rest = l; is = p; steps_are = refl; places_are = refl; nodes_are = refl; shallow = omega arith; stands = λ level stands. stands };
+      each = λ seen l p. record { rest = l; is = p; steps_are = refl; places_are = refl; nodes_are = refl; shallow = omega arith; stands = λ level stands. stands; pages_are = omega arith };
     }
 
     module _ {Q R : Layout → Type 0} {b : A} {y : D} {rest : ℕ} {w : Visited} (way : IsOnWay d asked Told P Q a x left v b y rest w) where
@@ -121,6 +128,9 @@ module _ {A D : Type 0} {d : Ghosts D} {Told : A → D → List WalkStep → A �
             let visits : has.places ≡ places_of parts.front = all.2 in
             let deep = here.shallow in
             let deeper = parts.behind_shallow in
+            let pages : d.reads y + laid_pages here.rest ≤ d.reads x + laid_pages l = here.pages_are in
+            let both = parts.pages_are in
+            let read : d.reads z ≤ d.reads y + laid_pages parts.front = has.reads seen parts.front parts.first in
             record {
               rest = parts.behind;
               is = parts.next;
@@ -133,6 +143,7 @@ module _ {A D : Type 0} {d : Ghosts D} {Told : A → D → List WalkStep → A �
               nodes_are = omega arith;
               shallow = omega arith;
               stands = λ level stands. (parts.stand level (here.stands level stands)).1;
+              pages_are = omega (arith, pages, both, read);
             };
       }
 
@@ -151,6 +162,13 @@ module _ {A D : Type 0} {d : Ghosts D} {Told : A → D → List WalkStep → A �
                   ∙ ap (λ s. way.told ++ s) (parts.steps_are ∙ ap (λ s. s ++ laid_steps asked parts.behind) first.1 ∙ append_assoc has.told first.0 (laid_steps asked parts.behind))
                   ∙ sym (append_assoc way.told has.told (first.0 ++ laid_steps asked parts.behind)),
             );
+        reads = λ seen l p.
+            let here = way.each (told_earlier has.goes seen) l p in
+            let parts = split here.rest here.is in
+            let pages : d.reads y + laid_pages here.rest ≤ d.reads x + laid_pages l = here.pages_are in
+            let both = parts.pages_are in
+            let read : d.reads z ≤ d.reads y + laid_pages parts.front = has.reads seen parts.front parts.first in
+            omega (arith, pages, both, read);
       }
 
       -- the next part isn't there
@@ -197,4 +215,8 @@ module _ {A D : Type 0} {d : Ghosts D} {Told : A → D → List WalkStep → A �
             omega arith,
             sym (here.places_are ∙ ap (λ ps. way.places ++ ps) end.2 ∙ append-nil way.places),
           );
+      reads = λ seen l p.
+          let here = way.each seen l p in
+          let pages : d.reads y + laid_pages here.rest ≤ d.reads x + laid_pages l = here.pages_are in
+          omega (arith, pages);
     }

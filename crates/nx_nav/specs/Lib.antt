@@ -14,3 +14,5 @@ pub mod GivenLaws
 pub mod EarlyLaws
 pub mod Nodes
 pub mod Visited
+pub mod Below
+pub mod Pages

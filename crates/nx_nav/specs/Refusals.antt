@@ -1,5 +1,5 @@
 -- The documents that a call speaks of, and why it gives up.
-use Rattle.std.specs.Prelude.{◌≡◌, ℕ, ◌+◌, false}
+use Rattle.std.specs.Prelude.{◌≡◌, ℕ, ◌+◌, ◌≤◌, false}
 use Rattle.nx_host.specs.Disk.{Rose}
 use Rattle.nx_host.specs.declared.disk.Disk.{Ghosts}
 use Rattle.nx_records.specs.Records.{has_ended, LeavesRecords}
@@ -33,6 +33,10 @@ HoldsNoDocument d records disk root = OfEach d records disk root (λ document. �
 -- there is none with so many nodes
 abbrev pub HoldsNoneWith : {D : Type 0} → Ghosts D → Records → D → RecordPlace → ℕ → Type 0
 HoldsNoneWith d records disk root count = OfEachWith d records disk root count (λ document. ⊥)
+
+-- there is none with at most so many
+abbrev pub HoldsNoneWithin : {D : Type 0} → Ghosts D → Records → D → RecordPlace → ℕ → Type 0
+HoldsNoneWithin d records disk root most = OfEach d records disk root (λ document. node_count document ≤ most → ⊥)
 
 -- Why a call gave up, and what it leaves: `NoNode` comes only where `Nowhere` holds, `Write` only where `Unwritten` does, and `Damaged` only where `Lacks` does.
 abbrev pub IsRefused : {D : Type 0} → Ghosts D → (Nowhere Unwritten Lacks : Type 0) → NavError → Records → Records → D → D → Type 0

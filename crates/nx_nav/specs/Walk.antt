@@ -13,11 +13,17 @@ use Rattle.nx_nav.specs.Refusals.{OfEach, node_count}
 use Rattle.nx_nav.specs.Nodes.{CanStand}
 use Rattle.nx_nav.specs.declared.visited.Visited.{Visited}
 use Rattle.nx_nav.specs.Visited.{HasVisited}
+use Rattle.nx_nav.specs.Pages.{laid_pages}
 use Rattle.nx_nav.specs.Steps.{WalkStep, laid_steps, steps_of}
 
 -- these places come behind all those that were visited before
 abbrev pub Visits : Visited → List RecordPlace → Visited → Type 0
 Visits old places new = (earlier : List RecordPlace) → HasVisited old earlier → HasVisited new (earlier ++ places)
+
+-- no more pages were read than the records and contents of each layout that P speaks of stand on
+abbrev pub ReadsNoMore : {D : Type 0} → Ghosts D → (Layout → Type 0) → (before after : D) → Type 0
+ReadsNoMore d P before after =
+    IsSome (d.contents after) → (layout : Layout) → P layout → d.reads after ≤ d.reads before + laid_pages layout
 
 -- From a teller and a disk to others, where the disk's contents are told at the end: what is told of each layout that P speaks of. Its nodes are taken off those that are left,
 -- and the places of its records are visited.
@@ -27,6 +33,7 @@ pub record HasTold {A D : Type 0} (d : Ghosts D) (asked : Bool) (Told : A → D 
   pub places : List RecordPlace
   pub visits : Visits visited places now
   pub all : IsSome (d.contents after) → (layout : Layout) → P layout → (told ≡ laid_steps asked layout) × (left ≡ rest + nodes (laid_forest layout)) × (places ≡ places_of layout)
+  pub reads : ReadsNoMore d P before after
 
 -- ... or of the first part of each, and what came then.
 pub record HasStopped {A D : Type 0} (d : Ghosts D) (asked : Bool) (Told : A → D → List WalkStep → A → D → Type 0) (P : Layout → Type 0) (old : A) (before after : D) : Type 0 where
@@ -34,6 +41,7 @@ pub record HasStopped {A D : Type 0} (d : Ghosts D) (asked : Bool) (Told : A →
   pub last : A
   pub goes : Told old before told last after
   pub first : IsSome (d.contents after) → (layout : Layout) → P layout → (more : List WalkStep) × (laid_steps asked layout ≡ told ++ more)
+  pub reads : ReadsNoMore d P before after
 
 -- The same of each thing that P speaks of, of which these steps tell, with no record visited.
 pub record TellsEach {A D T : Type 0} (d : Ghosts D) (Told : A → D → List WalkStep → A → D → Type 0) (P : T → Type 0) (steps : T → List WalkStep) (old : A) (before : D) (new : A) (after : D) : Type 0 where

@@ -1,20 +1,26 @@
 // The text of a document, given to an output.
-ghost use Rattle.std.specs.Prelude.{◌≡◌, ◌<◌, ◌++◌, ◌∷◌, [], false, length, List, ℕ, IsSome, IfErr, OnOk};
+ghost use Rattle.std.specs.Prelude.{◌≡◌, ◌<◌, ◌++◌, ◌∷◌, [], false, length, List, ℕ, IsSome, None, Some, Err, IfErr, OnOk};
+ghost use Rattle.std.specs.Option.{MatchOption};
 ghost use Rattle.nx_host.specs.Disk.{Rose};
 ghost use Rattle.nx_records.specs.Records.{has_ended, LeavesRecords};
-ghost use Rattle.nx_pyx.specs.Text.{text};
+ghost use Rattle.nx_host.specs.Still.{IsStill};
+ghost use Rattle.nx_tree.specs.Forest.{OrderedTree};
+ghost use Rattle.nx_tree.specs.Edit.{at};
+ghost use Rattle.nx_pyx.specs.Text.{text, tree_text};
+ghost use Rattle.nx_nav.specs.Visited.{HasVisited};
 ghost use Rattle.nx_cuts.specs.Cut.{CutTree, tree_of};
 ghost use Rattle.nx_hold.specs.Changes.{place_of};
 ghost use Rattle.nx_hold.specs.Documents.{HasDocument};
 ghost use Rattle.nx_nav.specs.Along.{ReadsAlong};
 ghost use Rattle.nx_nav.specs.Early.{LeavesOutput};
 ghost use Rattle.nx_nav.specs.Given.{AsksAndGives, AppendsBut, GivesWithin, block_size};
-ghost use Rattle.nx_nav.specs.Refusals.{OfEach, HoldsNoneWith, IsRefused, node_count};
+ghost use Rattle.nx_nav.specs.Pages.{ReadsBelow, pages_below};
+ghost use Rattle.nx_nav.specs.Refusals.{OfEach, HoldsNoneWith, HoldsNoneWithin, IsRefused, node_count};
 
 use crate::NavError;
 use crate::telling::{push_end, push_start};
 use crate::visited::Visited;
-use crate::walking::{Tells, Walk, tell_document};
+use crate::walking::{Tells, Walk, tell_below, tell_document};
 use nx_host::{Disk, Host};
 use nx_piece::{BodyView, NodeView};
 use nx_pyx::{push_escaped, push_line_start};
@@ -55,7 +61,64 @@ pub fn export<H: Host>(
     ensures refused { IfErr result (λ e. IsRefused ⟦<H as Disk>⟧ ⊥ (Rose (H.beside host.old).out_faults (H.beside host.new).out_faults)
         (IsSome (H.contents host.new) → HoldsNoneWith ⟦<H as Disk>⟧ records.old host.old (place_of root) nodes) e records.old records.new host.old host.new) }
 {
-    let mut walk = Walk {
+    let mut walk = export_walk(alloc, nodes, block);
+    tell_document(&mut walk, records, host, root)?;
+    *block = walk.teller.block;
+    Ok(())
+}
+
+/// Gives what the block has and, behind it, the canonical lines of the node at the path with all below
+/// it, as they stand in the text of its document, which has at most so many nodes; for the path without
+/// positions the whole text. As by `export`, a last part of fewer than 65,536 bytes is left in the block.
+/// It reads no pages but those of the records on the path, each once, and behind them those of the records
+/// that keep what is below the node, each once, with the chain pages that these name, and of far contents.
+///
+/// The lines of the node's own record are given, behind what the block has, before a further record is
+/// read. So where the output is as it was, whatever is answered, no more pages were read than `outline`
+/// may read for the node's first child.
+///
+/// Errors: those of `export`, but `Damaged` only where there is no document of at most so many nodes;
+/// `NoNode` only where the path leads nowhere, and then nothing was given and the block is as it was.
+/// With any other error the block is of no use.
+pub fn show<H: Host>(
+    alloc: Global,
+    records: &mut Records,
+    host: &mut H,
+    root: Rid,
+    nodes: u32,
+    path: &[u32],
+    block: &mut Bytes,
+) -> Result<(), NavError>
+    ensures areas { AsksAndGives ⟦<H as Disk>⟧ host.old host.new }
+    ensures stays { OnOk result ((has_ended records.old ≡ false) × LeavesRecords records.old records.new) }
+    ensures ok { OnOk result (IsSome (H.contents host.new) → OfEach ⟦<H as Disk>⟧ records.old host.old (place_of root) (λ document. (tree : OrderedTree) × (at (tree_of document) path.now ≡ Some tree)
+        × AppendsBut (block.old ++ tree_text tree) block.new (H.beside host.old).output (H.beside host.new).output)) }
+    ensures little { OnOk result (length block.new < block_size) }
+    ensures nowhere { result ≡ Err NavError.NoNode → (block.new ≡ block.old) × IsStill ⟦<H as Disk>⟧ host.old host.new }
+    ensures time { IsSome (H.contents host.new) → OfEach ⟦<H as Disk>⟧ records.old host.old (place_of root) (λ document. MatchOption (at (tree_of document) path.now)
+        (GivesWithin ⟦<H as Disk>⟧ block.old host.old host.new) (λ tree. GivesWithin ⟦<H as Disk>⟧ (block.old ++ tree_text tree) host.old host.new)) }
+    ensures early { LeavesOutput ⟦<H as Disk>⟧ host.old host.new → (document : CutTree) (held : HasDocument ⟦<H as Disk>⟧ records.old host.old (place_of root) document)
+        → ReadsAlong held.now (place_of root) (path.now ++ 0 ∷ []) (H.reads host.old) (H.reads host.new) }
+    ensures reads { IsSome (H.contents host.new) → (document : CutTree) (held : HasDocument ⟦<H as Disk>⟧ records.old host.old (place_of root) document)
+        → ReadsBelow held.now (place_of root) path.now (pages_below held path.now) (H.reads host.old) (H.reads host.new) }
+    ensures refused { IfErr result (λ e. IsRefused ⟦<H as Disk>⟧ (OfEach ⟦<H as Disk>⟧ records.old host.old (place_of root) (λ document. at (tree_of document) path.now ≡ None)) (Rose (H.beside host.old).out_faults (H.beside host.new).out_faults)
+        (IsSome (H.contents host.new) → HoldsNoneWithin ⟦<H as Disk>⟧ records.old host.old (place_of root) nodes) e records.old records.new host.old host.new) }
+{
+    let mut walk = export_walk(alloc, nodes, block);
+    let told = tell_below(&mut walk, records, host, root, path);
+    *block = walk.teller.block;
+    told?;
+    Ok(())
+}
+
+// A walk that gives what the block has and behind it what it is told. Meanwhile the block is empty.
+fn export_walk(alloc: Global, nodes: u32, block: &mut Bytes) -> Walk<Exporting>
+    ensures block { result.teller.block ≡ block.old }
+    ensures unread { result.teller.stage ≡ Stage.Unread }
+    ensures left { result.left ≡ nodes }
+    ensures fresh { HasVisited result.visited [] }
+{
+    Walk {
         alloc,
         teller: Exporting {
             block: mem::replace(block, Bytes::new(alloc)),
@@ -63,10 +126,7 @@ pub fn export<H: Host>(
         },
         left: nodes,
         visited: Visited::new(alloc),
-    };
-    tell_document(&mut walk, records, host, root)?;
-    *block = walk.teller.block;
-    Ok(())
+    }
 }
 
 // How far an export came.

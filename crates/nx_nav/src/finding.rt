@@ -21,7 +21,7 @@ ghost use Rattle.nx_nav.specs.Shows.{ShowsNode, CanBeShown, OutlinesNode, CanBeO
 
 use crate::NavError;
 use crate::judging::{may_be, may_have_children};
-use crate::reading::{damaged, passed_on, piece_at, written_at};
+use crate::reading::{damaged, passed_on, piece_at, rid_of, written_at};
 use crate::routing::{Route, copy_node, end_route, pass_record};
 use nx_hold::far_content;
 use nx_host::Disk;
@@ -306,16 +306,6 @@ fn find_at<D: Disk>(
             }
             LocatedView::Nowhere => return Err(NavError::NoNode),
         }
-    }
-}
-
-// The place of the record of a proxy.
-fn rid_of(proxy: Proxy) -> Rid
-    ensures { place_of result ≡ place_named proxy }
-{
-    Rid {
-        page: proxy.page,
-        slot: proxy.slot,
     }
 }
 

@@ -10,7 +10,7 @@ ghost use Rattle.nx_piece.specs.Valid.{IsValidPiece};
 ghost use Rattle.nx_piece.specs.declared.piece.Piece.{Piece};
 ghost use Rattle.nx_seek.specs.Written.{IsWrittenAs};
 ghost use Rattle.nx_hold.specs.Pieces.{HoldsPiece};
-ghost use Rattle.nx_hold.specs.Changes.{place_of, TakesPages};
+ghost use Rattle.nx_hold.specs.Changes.{place_of, place_named, TakesPages};
 ghost use Rattle.nx_nav.specs.Along.{ReadsPiece};
 ghost use Rattle.nx_nav.specs.Refusals.{IsRefused, StopsReading, IsPassedOn};
 ghost use Rattle.nx_nav.specs.Parts.{IsPieceAt, HasNoInterval};
@@ -18,7 +18,7 @@ ghost use Rattle.nx_nav.specs.Parts.{IsPieceAt, HasNoInterval};
 use crate::NavError;
 use nx_hold::{WrittenPiece, read_written, view_piece};
 use nx_host::Disk;
-use nx_piece::PieceView;
+use nx_piece::{PieceView, Proxy};
 use nx_records::{Records, Rid, StoreError};
 use nx_tree::Bytes;
 use std::alloc::Global;
@@ -100,4 +100,14 @@ pub fn damaged(records: &mut Records, page: u32) -> NavError
 {
     records.end();
     NavError::Damaged { page }
+}
+
+// The place of the record of a proxy.
+pub fn rid_of(proxy: Proxy) -> Rid
+    ensures { place_of result ≡ place_named proxy }
+{
+    Rid {
+        page: proxy.page,
+        slot: proxy.slot,
+    }
 }

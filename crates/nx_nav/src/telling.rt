@@ -1,18 +1,23 @@
 // The text of a document.
-ghost use Rattle.std.specs.Prelude.{◌≡◌, ◌++◌, false, IfOk, IfErr, OnOk};
+ghost use Rattle.std.specs.Prelude.{◌≡◌, ◌++◌, [], None, Some, false, IfOk, IfErr, OnOk};
 ghost use Rattle.nx_host.specs.Still.{IsStill};
 ghost use Rattle.nx_records.specs.Records.{has_ended, LeavesRecords};
-ghost use Rattle.nx_pyx.specs.Text.{text};
+ghost use Rattle.nx_tree.specs.Forest.{OrderedTree};
+ghost use Rattle.nx_tree.specs.Edit.{at};
+ghost use Rattle.nx_pyx.specs.Text.{text, tree_text};
 ghost use Rattle.nx_piece.specs.Flat.{seen_node};
-ghost use Rattle.nx_cuts.specs.Cut.{tree_of};
+ghost use Rattle.nx_cuts.specs.Cut.{CutTree, tree_of};
+ghost use Rattle.nx_hold.specs.Documents.{HasDocument};
+ghost use Rattle.nx_nav.specs.Visited.{HasVisited};
 ghost use Rattle.nx_hold.specs.Changes.{place_of};
 ghost use Rattle.nx_nav.specs.Steps.{Open, Close};
 ghost use Rattle.nx_nav.specs.Told.{walk_step_text};
-ghost use Rattle.nx_nav.specs.Refusals.{OfEach, HoldsNoneWith, IsRefused, node_count};
+ghost use Rattle.nx_nav.specs.Pages.{ReadsBelow, pages_below};
+ghost use Rattle.nx_nav.specs.Refusals.{OfEach, HoldsNoneWith, HoldsNoneWithin, IsRefused, node_count};
 
 use crate::NavError;
 use crate::visited::Visited;
-use crate::walking::{Tells, Walk, tell_document};
+use crate::walking::{Tells, Walk, tell_below, tell_document};
 use nx_host::Disk;
 use nx_piece::{BodyView, NodeView};
 use nx_pyx::{push_escaped, push_line_start, push_parts_line};
@@ -38,16 +43,50 @@ pub fn text_of<D: Disk>(
         × OfEach D.Disk records.old disk.old (place_of root) (λ document. (node_count document ≡ nodes) × (bytes ≡ text (tree_of document)))) }
     ensures refused { IfErr result (λ e. IsRefused D.Disk ⊥ ⊥ (HoldsNoneWith D.Disk records.old disk.old (place_of root) nodes) e records.old records.new disk.old disk.new) }
 {
-    let mut walk = Walk {
+    let mut walk = text_walk(alloc, nodes);
+    tell_document(&mut walk, records, disk, root)?;
+    Ok(walk.teller.bytes)
+}
+
+/// As `show`, as one text in memory.
+///
+/// Errors: those of `text_of`, but `Damaged` only where there is no document of at most so many nodes;
+/// `NoNode` only where the path leads nowhere.
+pub fn subtree_of<D: Disk>(
+    alloc: Global,
+    records: &mut Records,
+    disk: &mut D,
+    root: Rid,
+    nodes: u32,
+    path: &[u32],
+) -> Result<Bytes, NavError>
+    ensures still { IsStill D.Disk disk.old disk.new }
+    ensures ok { IfOk result (λ bytes. (has_ended records.old ≡ false) × LeavesRecords records.old records.new
+        × OfEach D.Disk records.old disk.old (place_of root) (λ document. (tree : OrderedTree) × (at (tree_of document) path.now ≡ Some tree) × (bytes ≡ tree_text tree))) }
+    ensures reads { (document : CutTree) (held : HasDocument D.Disk records.old disk.old (place_of root) document)
+        → ReadsBelow held.now (place_of root) path.now (pages_below held path.now) (D.reads disk.old) (D.reads disk.new) }
+    ensures refused { IfErr result (λ e. IsRefused D.Disk (OfEach D.Disk records.old disk.old (place_of root) (λ document. at (tree_of document) path.now ≡ None)) ⊥
+        (HoldsNoneWithin D.Disk records.old disk.old (place_of root) nodes) e records.old records.new disk.old disk.new) }
+{
+    let mut walk = text_walk(alloc, nodes);
+    tell_below(&mut walk, records, disk, root, path)?;
+    Ok(walk.teller.bytes)
+}
+
+// A walk that makes a text.
+fn text_walk(alloc: Global, nodes: u32) -> Walk<Text>
+    ensures none { result.teller.bytes ≡ [] }
+    ensures left { result.left ≡ nodes }
+    ensures fresh { HasVisited result.visited [] }
+{
+    Walk {
         alloc,
         teller: Text {
             bytes: Bytes::new(alloc),
         },
         left: nodes,
         visited: Visited::new(alloc),
-    };
-    tell_document(&mut walk, records, disk, root)?;
-    Ok(walk.teller.bytes)
+    }
 }
 
 // The text so far.

@@ -1,5 +1,5 @@
 // How a node begins for a teller: with its content, or with that behind it, block by block.
-ghost use Rattle.std.specs.Prelude.{◌≡◌, ◌≢◌, ◌≤◌, false, length, map, OnOk, IfOk, IfErr, OnErr};
+ghost use Rattle.std.specs.Prelude.{◌≡◌, ◌≢◌, ◌+◌, ◌≤◌, false, length, map, OnOk, IfOk, IfErr, OnErr};
 ghost use Rattle.nx_host.specs.Disk.{Image};
 ghost use Rattle.nx_host.specs.Still.{IsStill};
 ghost use Rattle.nx_numbers.specs.Sizes.{page_room};
@@ -7,6 +7,8 @@ ghost use Rattle.nx_links.specs.Lists.{IsLinkAt};
 ghost use Rattle.nx_records.specs.Records.{has_ended, page_count_of, current_pages, IsInStepWith, LeavesRecords};
 ghost use Rattle.nx_records.specs.Changes.{HasListFrom};
 ghost use Rattle.nx_records.specs.Reading.{IsBlock};
+ghost use Rattle.nx_records.specs.Words.{chain_count};
+ghost use Rattle.nx_hold.specs.Contents.{far_pages};
 ghost use Rattle.nx_tree.specs.Document.{is_doc};
 ghost use Rattle.nx_piece.specs.Flat.{seen_node};
 ghost use Rattle.nx_piece.specs.PieceNode.{MayBeFar, content_length, item_slots};
@@ -42,6 +44,7 @@ pub fn begin_node<D: Disk, T: Tells<D>>(
     ensures told { OnOk result (TellsEach D.Disk T.Told (HasNode D.Disk records.old disk.old (seen_node node.entry)) (begun_steps T.Contents) teller.old disk.old teller.new disk.new) }
     ensures stops { OnErr result (StopsInEach D.Disk T.Told (HasNode D.Disk records.old disk.old (seen_node node.entry)) (begun_steps T.Contents) teller.old disk.old disk.new) }
     ensures refused { IfErr result (λ e. IsRefused D.Disk ⊥ (T.Unwritten disk.old disk.new) (LacksEach D.Disk disk.new (HasNode D.Disk records.old disk.old (seen_node node.entry))) e records.old records.new disk.old disk.new) }
+    ensures reads { D.reads disk.new ≤ D.reads disk.old + far_pages (seen_node node.entry) }
     ensures unread { LeavesOutput D.Disk disk.old disk.new → 2 ≤ T.Near teller.old → D.reads disk.new ≤ D.reads disk.old }
     ensures near { OnOk result (LeavesOutput D.Disk disk.old disk.new → is_doc (seen_node node.entry).node.kind ≡ false → 2 ≤ T.Near teller.old → 3 ≤ T.Near teller.new) }
 {
@@ -70,6 +73,7 @@ fn tell_content<D: Disk, T: Tells<D>>(
     ensures told { OnOk result (TellsEach D.Disk T.Told (HasNode D.Disk records.old disk.old (seen_node node.entry)) (λ n. content_steps T.Contents n.content) teller.old disk.old teller.new disk.new) }
     ensures stops { OnErr result (StopsInEach D.Disk T.Told (HasNode D.Disk records.old disk.old (seen_node node.entry)) (λ n. content_steps T.Contents n.content) teller.old disk.old disk.new) }
     ensures refused { IfErr result (λ e. IsRefused D.Disk ⊥ (T.Unwritten disk.old disk.new) (LacksEach D.Disk disk.new (HasNode D.Disk records.old disk.old (seen_node node.entry))) e records.old records.new disk.old disk.new) }
+    ensures reads { D.reads disk.new ≤ D.reads disk.old + far_pages (seen_node node.entry) }
     ensures unread { LeavesOutput D.Disk disk.old disk.new → 3 ≤ T.Near teller.old → D.reads disk.new ≤ D.reads disk.old }
 {
     if !teller.wants_contents() {
@@ -97,6 +101,7 @@ fn tell_far<D: Disk, T: Tells<D>>(
     ensures told { OnOk result (TellsEach D.Disk T.Told (HasFarContent D.Disk records.old disk.old far) (λ bytes. map Block (content_blocks bytes)) teller.old disk.old teller.new disk.new) }
     ensures stops { OnErr result (StopsInEach D.Disk T.Told (HasFarContent D.Disk records.old disk.old far) (λ bytes. map Block (content_blocks bytes)) teller.old disk.old disk.new) }
     ensures refused { IfErr result (λ e. IsRefused D.Disk ⊥ (T.Unwritten disk.old disk.new) (LacksEach D.Disk disk.new (HasFarContent D.Disk records.old disk.old far)) e records.old records.new disk.old disk.new) }
+    ensures reads { D.reads disk.new ≤ D.reads disk.old + chain_count far.length }
     ensures unread { LeavesOutput D.Disk disk.old disk.new → 3 ≤ T.Near teller.old → D.reads disk.new ≤ D.reads disk.old }
 {
     let mut reader = match records.open_list(disk, far.first, u64::from(far.length)) {
@@ -121,6 +126,7 @@ fn block_behind<D: Disk>(
     requires runs { has_ended records.old ≡ false }
     requires some { reader.old.left ≢ 0 }
     ensures still { IsStill D.Disk disk.old disk.new }
+    ensures reads { D.reads disk.new ≤ D.reads disk.old + 1 }
     ensures stays { OnOk result (LeavesRecords records.old records.new) }
     ensures block { IfOk result (λ block. IsBlock reader.old reader.new block) }
     ensures stood { IfOk result (λ block. (was : Image) → IsInStepWith D.Disk records.old disk.old was → IsLinkAt (current_pages records.old was) reader.old.next reader.new.next block) }

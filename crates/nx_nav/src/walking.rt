@@ -1,5 +1,5 @@
 // A walk over the records of a document, which tells its nodes and its intervals.
-ghost use Rattle.std.specs.Prelude.{◌≡◌, ◌⊎◌, ◌+◌, ◌≤◌, false, Bool, ℕ, List, [], ◌∷◌, ◌++◌, OnOk, IfOk, IfErr, length, drop, OnErr, IsSome};
+ghost use Rattle.std.specs.Prelude.{◌≡◌, ◌⊎◌, ◌+◌, ◌≤◌, false, Bool, None, Err, ℕ, List, [], ◌∷◌, ◌++◌, OnOk, IfOk, IfErr, length, drop, OnErr, IsSome};
 ghost use Rattle.nx_host.specs.Disk.{Image, Keeps};
 ghost use Rattle.nx_host.specs.Host.{Appends};
 ghost use Rattle.nx_host.specs.Still.{IsStill};
@@ -16,19 +16,27 @@ ghost use Rattle.nx_hold.specs.Changes.{place_of};
 ghost use Rattle.nx_hold.specs.Documents.{HasDocument};
 ghost use Rattle.nx_nav.specs.Along.{ReadsAlong};
 ghost use Rattle.nx_nav.specs.Early.{LeavesOutput, ReadsAtMost, ReadsInterval, ReadsGap, ReadsFirstOf};
-ghost use Rattle.nx_nav.specs.Refusals.{IsRefused, HoldsNoneWith};
+ghost use Rattle.nx_tree.specs.Edit.{at};
+ghost use Rattle.nx_cuts.specs.Cut.{tree_of};
+ghost use Rattle.nx_piece.specs.Locate.{IsPartOf};
+ghost use Rattle.nx_piece.specs.Valid.{IsValidPiece};
+ghost use Rattle.nx_nav.specs.Below.{TellsBelow, StopsBelow, MayBeInPiece, found_steps};
+ghost use Rattle.nx_nav.specs.Pages.{ReadsBelow, pages_below};
+ghost use Rattle.nx_nav.specs.Refusals.{IsRefused, HoldsNoneWith, HoldsNoneWithin, OfEach};
 ghost use Rattle.nx_nav.specs.Visited.{HasVisited};
-ghost use Rattle.nx_nav.specs.Walk.{HasTold, HasStopped, IsNone, IsIntervalAt, IsTreeOf, AreOf, AreIntervalsOf, TellsDocument, StopsWithin};
+ghost use Rattle.nx_nav.specs.Walk.{HasTold, HasStopped, TellsEach, StopsInEach, ReadsNoMore, IsNone, IsIntervalAt, IsTreeOf, AreOf, AreIntervalsOf, TellsDocument, StopsWithin};
 ghost use Rattle.nx_nav.specs.Steps.{WalkStep, Begin, Open, Head, Block, Tail, Close};
 
 use crate::NavError;
 use crate::judging::is_possible;
-use crate::reading::{damaged, piece_at};
+use crate::reading::{damaged, piece_at, rid_of};
 use crate::telling_content::begin_node;
 use crate::visited::Visited;
 use nx_host::Disk;
 use nx_lists::DEEPEST;
-use nx_piece::{BodyView, ItemView, ItemsView, NodeView, Proxy, TreeView};
+use nx_piece::{
+    BodyView, ItemView, ItemsView, LocatedView, NodeView, PieceView, Proxy, TreeView, find,
+};
 use nx_records::{Records, Rid};
 use nx_tree::{Bytes, Kind, NoMemory};
 use std::alloc::Global;
@@ -143,6 +151,94 @@ pub fn tell_document<D: Disk, T: Tells<D>>(
     if walk.left != 0 {
         return Err(damaged(records, root.page));
     }
+    walk.teller.finish(disk)?;
+    Ok(())
+}
+
+// Tells of the node at a path with all below it, in the document whose root's record stands at a place,
+// and that has no more nodes than the walk has left. Nothing is told before the node is found.
+pub fn tell_below<D: Disk, T: Tells<D>>(
+    walk: &mut Walk<T>,
+    records: &mut Records,
+    disk: &mut D,
+    root: Rid,
+    path: &[u32],
+) -> Result<(), NavError>
+    requires fresh { HasVisited walk.old.visited [] }
+    ensures stays { OnOk result ((has_ended records.old ≡ false) × LeavesRecords records.old records.new) }
+    ensures told { OnOk result (TellsBelow D.Disk T.Contents T.Told records.old disk.old (place_of root) path.now walk.old.teller walk.new.teller disk.new) }
+    ensures ready { OnOk result (T.IsReady walk.new.teller) }
+    ensures stops { OnErr result (StopsBelow D.Disk T.Contents T.Told records.old disk.old (place_of root) path.now walk.old.teller disk.new) }
+    ensures untold { result ≡ Err NavError.NoNode → (walk.new.teller ≡ walk.old.teller) × IsStill D.Disk disk.old disk.new }
+    ensures first { LeavesOutput D.Disk disk.old disk.new → 1 ≤ T.Near walk.old.teller → (document : CutTree) (held : HasDocument D.Disk records.old disk.old (place_of root) document)
+        → ReadsAlong held.now (place_of root) (path.now ++ 0 ∷ []) (D.reads disk.old) (D.reads disk.new) }
+    ensures reads { IsSome (D.contents disk.new) → (document : CutTree) (held : HasDocument D.Disk records.old disk.old (place_of root) document)
+        → ReadsBelow held.now (place_of root) path.now (pages_below held path.now) (D.reads disk.old) (D.reads disk.new) }
+    ensures refused { IfErr result (λ e. IsRefused D.Disk (OfEach D.Disk records.old disk.old (place_of root) (λ document. at (tree_of document) path.now ≡ None)) (T.Unwritten disk.old disk.new)
+        (IsSome (D.contents disk.new) → HoldsNoneWithin D.Disk records.old disk.old (place_of root) walk.old.left) e records.old records.new disk.old disk.new) }
+{
+    if records.is_ended() {
+        return Err(NavError::Ended);
+    }
+    if path.len() > DEEPEST {
+        return Err(NavError::NoNode);
+    }
+    let (mut rid, mut roots, mut member, mut rest) = (root, 1, 0, path);
+    loop {
+        let mut bytes = Bytes::new(walk.alloc);
+        let piece = piece_at(walk.alloc, records, disk, rid, roots, &mut bytes)?;
+        match find(&piece, member, rest) {
+            LocatedView::Here { tree, first } => {
+                let spot = Spot {
+                    page: rid.page,
+                    depth: (DEEPEST + 1 - path.len()) as u32,
+                };
+                tell_found(walk, records, disk, &piece, tree, first, spot)?;
+                return Ok(());
+            }
+            LocatedView::Away {
+                proxy,
+                member: next,
+                used,
+                ..
+            } => {
+                rid = rid_of(proxy);
+                roots = proxy.roots;
+                member = next;
+                rest = &rest[used as usize..];
+            }
+            LocatedView::Nowhere => return Err(NavError::NoNode),
+        }
+    }
+}
+
+// Tells of a tree of a piece, before whose own proxies so many stand, as if its record had nothing else.
+fn tell_found<D: Disk, T: Tells<D>>(
+    walk: &mut Walk<T>,
+    records: &mut Records,
+    disk: &mut D,
+    piece: &PieceView<'_>,
+    tree: TreeView<'_>,
+    first: u32,
+    spot: Spot,
+) -> Result<(), NavError>
+    requires runs { has_ended records.old ≡ false }
+    requires levels { spot.depth ≤ 257 }
+    requires piece { IsValidPiece piece.now }
+    requires node { IsPartOf piece.now (seen_tree tree) first }
+    requires stands { MayBeInPiece (seen_tree tree) }
+    ensures stays { OnOk result (LeavesRecords records.old records.new) }
+    ensures told { OnOk result (TellsEach D.Disk T.Told (IsTreeOf D.Disk records.old disk.old (seen_tree tree.entry) (drop first piece.now.proxies)) (found_steps T.Contents piece.now) walk.old.teller disk.old walk.new.teller disk.new) }
+    ensures ready { OnOk result (T.IsReady walk.new.teller) }
+    ensures stops { OnErr result (StopsInEach D.Disk T.Told (IsTreeOf D.Disk records.old disk.old (seen_tree tree.entry) (drop first piece.now.proxies)) (found_steps T.Contents piece.now) walk.old.teller disk.old disk.new) }
+    ensures refused { IfErr result (λ e. IsRefused D.Disk ⊥ (T.Unwritten disk.old disk.new) (IsNone D.Disk disk.new (IsTreeOf D.Disk records.old disk.old (seen_tree tree.entry) (drop first piece.now.proxies)) spot.depth walk.old.left walk.old.visited) e records.old records.new disk.old disk.new) }
+    ensures reads { ReadsNoMore D.Disk (IsTreeOf D.Disk records.old disk.old (seen_tree tree.entry) (drop first piece.now.proxies)) disk.old disk.new }
+    ensures first { LeavesOutput D.Disk disk.old disk.new → 1 ≤ T.Near walk.old.teller → (D.reads disk.new ≤ D.reads disk.old)
+        ⊎ ReadsGap D.Disk records.old disk.old disk.new (seen_items tree.entry.children) (drop first piece.now.proxies) }
+{
+    walk.teller.begin(piece.body.root_count(), &piece.body)?;
+    let (_, proxies) = piece.proxies.as_slice().split_at(first as usize);
+    tell_tree(walk, records, disk, tree, proxies, spot)?;
     walk.teller.finish(disk)?;
     Ok(())
 }

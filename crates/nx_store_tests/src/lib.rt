@@ -23,6 +23,8 @@ mod rows;
 #[cfg(test)]
 mod runs;
 #[cfg(test)]
+mod shows;
+#[cfg(test)]
 mod stops;
 #[cfg(test)]
 mod stores;

@@ -1,6 +1,7 @@
-use Rattle.std.proofs.Common.{[], length, sym, refl, ap, ◌∙◌}
+use Rattle.std.proofs.Common.{◌≡◌, [], length, sym, refl, ap, ◌∙◌}
 use Rattle.std.proofs.lemmas.Result.{err_from_is_err_and}
 use Rattle.nx_hold.specs.Changes.{place_of}
+use Rattle.nx_nav.specs.Refusals.{node_count}
 use Rattle.nx_nav.specs.Laid.{Course, course_behind}
 use Rattle.nx_nav.proofs.DocumentLemmas.{document_seen, asked_refused}
 use Rattle.nx_nav.proofs.LaidLemmas.{pairs_stay, has_parts, has_weights}
@@ -30,4 +31,5 @@ returns-clause-ok g c =
 pub returns-in_err-tell_document-clause-refused : goal.returns-in_err-tell_document-clause-refused
 returns-in_err-tell_document-clause-refused g c =
     let p = err_from_is_err_and c.from_residual.result c.from_residual.ensures.1 in
-    rw (p.1, p.2) (asked_refused g.D.Disk c.args.records.now c.tell_document.new.records c.args.disk.now c.tell_document.new.disk (place_of c.args.root) c.args.nodes c.in_err-tell_document.field-0.0 (c.in_err-tell_document.ensures.stops.goes).0 c.in_err-tell_document.ensures.refused)
+    rw (p.1, p.2)
+    (asked_refused g.D.Disk ⊥ (λ document. node_count document ≡ c.args.nodes → ⊥) c.args.records.now c.tell_document.new.records c.args.disk.now c.tell_document.new.disk (place_of c.args.root) c.in_err-tell_document.field-0.0 (c.in_err-tell_document.ensures.stops.goes).0 c.in_err-tell_document.ensures.refused)

@@ -1,4 +1,4 @@
-use Rattle.std.proofs.Common.{ℕ, List, [], ◌∷◌, refl, sym, ◌∙◌, subst, arith}
+use Rattle.std.proofs.Common.{◌≡◌, ℕ, List, [], ◌∷◌, refl, sym, ◌∙◌, subst, arith}
 use Rattle.std.proofs.lemmas.Result.{err_from_is_err_and}
 use Rattle.nx_records.specs.Changes.{LacksList}
 use Rattle.nx_records.specs.Reading.{Opens}
@@ -7,7 +7,7 @@ use Rattle.nx_records.proofs.LeaveLemmas.{leaves_same, leaves_add_up}
 use Rattle.nx_nav.specs.Steps.{Block}
 use Rattle.nx_nav.proofs.EarlyLemmas.{IsNearing, first_left, waits_no_more}
 use Rattle.nx_nav.proofs.WayLemmas.{IsTeller}
-use Rattle.nx_nav.proofs.ContentLemmas.{list_refused, node_stops_at_once, telling_begins, telling_pauses, telling_later, telling_goes_on, telling_ends, telling_stops, block_refused, not_written}
+use Rattle.nx_nav.proofs.ContentLemmas.{one_page_more, full_page_more, list_refused, node_stops_at_once, telling_begins, telling_pauses, telling_later, telling_goes_on, telling_ends, telling_stops, block_refused, not_written}
 use Rattle.nx_nav.proofs.telling_content.tell_far.Given.{Over}
 use Rattle.nx_nav.proofs.telling_content.tell_far.Goals as goal
 
@@ -50,7 +50,7 @@ returns-in-Err-clause-refused g c =
 pub loop-alloc-init : goal.loop-alloc-init
 loop-alloc-init g c =
     let ok = c.in-Ok.ensures.ok in
-    record { stays = leaves_same ok.1; telling = telling_begins (teller g) c.in-Ok.reader ok.1 (subst (λ (n : ℕ). Opens c.in-Ok.reader c.args.far.first n) c.from.ensures ok.2); unread = λ left waits. omega arith }
+    record { stays = leaves_same ok.1; telling = telling_begins (teller g) c.in-Ok.reader ok.1 (subst (λ (n : ℕ). Opens c.in-Ok.reader c.args.far.first n) c.from.ensures ok.2); few = omega arith; full = λ some. (let opens = subst (λ (n : ℕ). Opens c.in-Ok.reader c.args.far.first n) c.from.ensures ok.2 in let left = opens.left in omega (arith, left)); unread = λ left waits. omega arith }
 
 pub returns-in_err-pause-clause-stops : goal.returns-in_err-pause-clause-stops
 returns-in_err-pause-clause-stops g c =
@@ -93,14 +93,38 @@ returns-in_err-content-clause-refused g c =
 
 pub loop-alloc-preserved : goal.loop-alloc-preserved
 loop-alloc-preserved g c =
+    let some : c.loop-alloc.reader.left ≡ 0 → ⊥ = λ none. c.loop-alloc-test.true (c.left.ensures ∙ none) in
     let paused = telling_pauses (teller g) c.loop-alloc.invariant.telling c.in_ok-pause.ensures.ok in
     record {
       stays = leaves_add_up c.loop-alloc.invariant.stays c.in_ok-block.ensures.stays;
       telling = telling_goes_on (teller g) paused c.in_ok-block.block (λ none. c.loop-alloc-test.true (c.left.ensures ∙ none)) c.in_ok-block.ensures.stays c.block_behind.ensures.still c.in_ok-block.ensures.block c.in_ok-block.ensures.stood
           (subst (λ (bytes : List ℕ). g.T.Tells.Told c.pause.new.self c.block_behind.new.disk (Block bytes ∷ []) c.content.new.self c.block_behind.new.disk) c.as_slice.ensures (c.in_ok-content.ensures c.block_behind.new.disk));
+      few = one_page_more (g.D.Disk.reads c.args.disk.now) (g.D.Disk.reads c.loop-alloc.disk) (g.D.Disk.reads c.block_behind.new.disk) c.args.far.length c.loop-alloc.reader.left (c.loop-alloc.invariant.full some) some
+          (let same = c.pause.ensures.unread in let one = c.block_behind.ensures.reads in omega (arith, same, one));
+      full = λ more. full_page_more (g.D.Disk.reads c.args.disk.now) (g.D.Disk.reads c.loop-alloc.disk) (g.D.Disk.reads c.block_behind.new.disk) c.args.far.length c.loop-alloc.reader.left c.block_behind.new.reader.left (c.loop-alloc.invariant.full some)
+          (let same = c.pause.ensures.unread in let one = c.block_behind.ensures.reads in omega (arith, same, one))
+          (let whole = c.in_ok-block.ensures.block.full more in let left = c.in_ok-block.ensures.block.left in omega (arith, whole, left));
       unread = λ left waits. absurd (waits_no_more (teller g) (nearing g) (c.loop-alloc.invariant.telling).goes c.in_ok-pause.ensures.ok c.in_ok-pause.ensures.gives
           ((teller g).join c.pause.new.self c.pause.new.self c.content.new.self c.pause.new.disk c.block_behind.new.disk c.block_behind.new.disk [] (Block c.as_slice.result.now ∷ []) ((teller g).asked c.pause.new.self c.pause.new.disk c.block_behind.new.disk c.block_behind.ensures.still) (c.in_ok-content.ensures c.block_behind.new.disk)) left waits);
     }
+
+pub returns-in_err-pause-clause-reads : goal.returns-in_err-pause-clause-reads
+returns-in_err-pause-clause-reads g c = let same = c.pause.ensures.unread in let few = c.loop-alloc.invariant.few in omega (arith, same, few)
+
+pub returns-in_err-block-clause-reads : goal.returns-in_err-block-clause-reads
+returns-in_err-block-clause-reads g c =
+    let some : c.loop-alloc.reader.left ≡ 0 → ⊥ = λ none. c.loop-alloc-test.true (c.left.ensures ∙ none) in
+    one_page_more (g.D.Disk.reads c.args.disk.now) (g.D.Disk.reads c.loop-alloc.disk) (g.D.Disk.reads c.block_behind.new.disk) c.args.far.length c.loop-alloc.reader.left (c.loop-alloc.invariant.full some) some
+    (let same = c.pause.ensures.unread in let one = c.block_behind.ensures.reads in omega (arith, same, one))
+
+pub returns-in_err-content-clause-reads : goal.returns-in_err-content-clause-reads
+returns-in_err-content-clause-reads g c =
+    let some : c.loop-alloc.reader.left ≡ 0 → ⊥ = λ none. c.loop-alloc-test.true (c.left.ensures ∙ none) in
+    one_page_more (g.D.Disk.reads c.args.disk.now) (g.D.Disk.reads c.loop-alloc.disk) (g.D.Disk.reads c.block_behind.new.disk) c.args.far.length c.loop-alloc.reader.left (c.loop-alloc.invariant.full some) some
+    (let same = c.pause.ensures.unread in let one = c.block_behind.ensures.reads in omega (arith, same, one))
+
+pub returns-clause-reads : goal.returns-clause-reads
+returns-clause-reads g c = c.loop-alloc.invariant.few
 
 pub returns-clause-stays : goal.returns-clause-stays
 returns-clause-stays g c = c.loop-alloc.invariant.stays

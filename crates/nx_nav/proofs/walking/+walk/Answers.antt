@@ -22,7 +22,7 @@ use Rattle.nx_nav.proofs.EarlyLemmas.{IsNearing, below_root, interval_unread, in
 use Rattle.nx_nav.proofs.WayLemmas.{IsTeller, IsSplit, IsOnWay, told_stands, way_begins, way_goes_on, way_stops, way_refused, way_ends}
 use Rattle.nx_nav.proofs.RefusalLemmas.{is_damaged}
 use Rattle.nx_nav.proofs.VisitLemmas.{was_new, was_old}
-use Rattle.nx_nav.proofs.TellLemmas.{no_room, no_such_tree, no_other_interval, stops_at_once, node_stops, node_refused, tree_told, tree_stops, tree_not_closed, tree_refused, asked_on, interval_not_read, interval_begins}
+use Rattle.nx_nav.proofs.TellLemmas.{no_room, no_such_tree, no_other_interval, stops_at_once, node_stops, node_refused, tree_told, tree_stops, tree_not_closed, tree_refused, asked_on, interval_reads, interval_not_read, interval_begins}
 use Rattle.nx_nav.proofs.SplitLemmas.{split_tree, split_row, split_interval, row_ends, items_end, enough_left, dropped_twice}
 use Rattle.nx_nav.proofs.walking.+walk.Given.{Over}
 use Rattle.nx_nav.proofs.walking.+walk.Goals as goal
@@ -48,13 +48,13 @@ pub tell_interval-returns-in_err-pause-clause-stops : goal.tell_interval-returns
 tell_interval-returns-in_err-pause-clause-stops g t c =
     let p = err_from_is_err_and c.from_residual.result c.from_residual.ensures.1 in
     let last = c.in_err-pause.ensures.err.2 in
-    rw p.1 (stops_at_once g.T.Tells.Contents (teller g) (IsIntervalAt g.D.Disk c.args.records.now c.args.disk.now (place_of c.args.rid) c.args.roots) last.0 c.pause.new.disk last.1)
+    rw p.1 (stops_at_once g.T.Tells.Contents (teller g) (IsIntervalAt g.D.Disk c.args.records.now c.args.disk.now (place_of c.args.rid) c.args.roots) last.0 c.pause.new.disk last.1 (λ seen l is. let same = c.pause.ensures.unread in omega (arith, same)))
 
 pub tell_interval-returns-in_err-piece-clause-stops : goal.tell_interval-returns-in_err-piece-clause-stops
 tell_interval-returns-in_err-piece-clause-stops g t c =
     let paused = c.in_ok-pause.ensures.ok in
     let p = err_from_is_err_and c.from_residual-in_err-piece.result c.from_residual-in_err-piece.ensures.1 in
-    rw p.1 (stops_at_once g.T.Tells.Contents (teller g) (IsIntervalAt g.D.Disk c.args.records.now c.args.disk.now (place_of c.args.rid) c.args.roots) c.pause.new.self c.piece_at.new.disk (asked_on g.T.Tells.Contents (teller g) c.args.records.now c.piece_at.new.records (place_of c.args.rid) c.args.roots paused c.piece_at.ensures.still))
+    rw p.1 (stops_at_once g.T.Tells.Contents (teller g) (IsIntervalAt g.D.Disk c.args.records.now c.args.disk.now (place_of c.args.rid) c.args.roots) c.pause.new.self c.piece_at.new.disk (asked_on g.T.Tells.Contents (teller g) c.args.records.now c.piece_at.new.records (place_of c.args.rid) c.args.roots paused c.piece_at.ensures.still) (interval_reads g.T.Tells.Contents (teller g) c.args.records.now c.piece_at.new.records (place_of c.args.rid) c.args.roots paused c.piece_at.ensures.still c.pause.ensures.unread c.piece_at.ensures.reads))
 
 pub tell_interval-returns-in_err-piece-clause-refused : goal.tell_interval-returns-in_err-piece-clause-refused
 tell_interval-returns-in_err-piece-clause-refused g t c =
@@ -66,7 +66,7 @@ pub tell_interval-returns-in_err-begin-clause-stops : goal.tell_interval-returns
 tell_interval-returns-in_err-begin-clause-stops g t c =
     let paused = c.in_ok-pause.ensures.ok in
     let p = err_from_is_err_and c.from_residual-in_err-begin.result c.from_residual-in_err-begin.ensures.1 in
-    rw p.1 (stops_at_once g.T.Tells.Contents (teller g) (IsIntervalAt g.D.Disk c.args.records.now c.args.disk.now (place_of c.args.rid) c.args.roots) c.pause.new.self c.piece_at.new.disk (asked_on g.T.Tells.Contents (teller g) c.args.records.now c.piece_at.new.records (place_of c.args.rid) c.args.roots paused c.piece_at.ensures.still))
+    rw p.1 (stops_at_once g.T.Tells.Contents (teller g) (IsIntervalAt g.D.Disk c.args.records.now c.args.disk.now (place_of c.args.rid) c.args.roots) c.pause.new.self c.piece_at.new.disk (asked_on g.T.Tells.Contents (teller g) c.args.records.now c.piece_at.new.records (place_of c.args.rid) c.args.roots paused c.piece_at.ensures.still) (interval_reads g.T.Tells.Contents (teller g) c.args.records.now c.piece_at.new.records (place_of c.args.rid) c.args.roots paused c.piece_at.ensures.still c.pause.ensures.unread c.piece_at.ensures.reads))
 
 pub tell_interval-returns-in_err-proxies-clause-stops : goal.tell_interval-returns-in_err-proxies-clause-stops
 tell_interval-returns-in_err-proxies-clause-stops g t c =
@@ -253,12 +253,12 @@ tell_row-returns-clause-told g t c =
     way_ends (teller g) c.loop-proxy.invariant.way (λ l is. row_ends g.T.Tells.Contents (drop c.loop-proxy.proxy-index c.args.proxies.now) l is (drop_all c.loop-proxy.proxy-index c.args.proxies.now (omega arith)))
 
 pub tell_tree-returns-then-spot-eq0-clause-stops : goal.tell_tree-returns-then-spot-eq0-clause-stops
-tell_tree-returns-then-spot-eq0-clause-stops g t c = stops_at_once g.T.Tells.Contents (teller g) (IsTreeOf g.D.Disk c.args.records.now c.args.disk.now (seen_tree c.args.tree) c.args.proxies.now) c.args.walk.now.teller c.args.disk.now (g.met.T.Tells.asked c.args.walk.now.teller c.args.disk.now c.args.disk.now none_still)
+tell_tree-returns-then-spot-eq0-clause-stops g t c = stops_at_once g.T.Tells.Contents (teller g) (IsTreeOf g.D.Disk c.args.records.now c.args.disk.now (seen_tree c.args.tree) c.args.proxies.now) c.args.walk.now.teller c.args.disk.now (g.met.T.Tells.asked c.args.walk.now.teller c.args.disk.now c.args.disk.now none_still) (λ seen l is. omega arith)
 
 pub tell_tree-returns-in_err-begin_node-clause-stops : goal.tell_tree-returns-in_err-begin_node-clause-stops
 tell_tree-returns-in_err-begin_node-clause-stops g t c =
     let p = err_from_is_err_and c.from_residual.result c.from_residual.ensures.1 in
-    rw p.1 (node_stops g.T.Tells.Contents (teller g) c.args.records.now (seen_tree c.args.tree) c.args.proxies.now c.begin_node.new.disk c.in_err-begin_node.ensures.stops)
+    rw p.1 (node_stops g.T.Tells.Contents (teller g) c.args.records.now (seen_tree c.args.tree) c.args.proxies.now c.begin_node.new.disk c.in_err-begin_node.ensures.stops c.begin_node.ensures.reads)
 
 pub tell_tree-returns-in_err-begin_node-clause-refused : goal.tell_tree-returns-in_err-begin_node-clause-refused
 tell_tree-returns-in_err-begin_node-clause-refused g t c =
@@ -275,7 +275,7 @@ pub tell_tree-returns-in_err-behind-clause-stops : goal.tell_tree-returns-in_err
 tell_tree-returns-in_err-behind-clause-stops g t c =
     let begun = c.in_ok-begin_node.ensures in
     let p = err_from_is_err_and c.from_residual-in_err-behind.result c.from_residual-in_err-behind.ensures.1 in
-    rw p.1 (tree_stops g.T.Tells.Contents (teller g) c.args.records.now c.begin_node.new.records (seen_tree c.args.tree) c.args.proxies.now c.begin_node.new.teller c.begin_node.new.disk begun.stays begun.told c.args.walk.now.visited c.tell_items.new.disk c.in_err-behind.ensures.stops)
+    rw p.1 (tree_stops g.T.Tells.Contents (teller g) c.args.records.now c.begin_node.new.records (seen_tree c.args.tree) c.args.proxies.now c.begin_node.new.teller c.begin_node.new.disk begun.stays begun.told c.args.walk.now.visited c.tell_items.new.disk c.in_err-behind.ensures.stops c.begin_node.ensures.reads)
 
 pub tell_tree-returns-in_err-behind-clause-refused : goal.tell_tree-returns-in_err-behind-clause-refused
 tell_tree-returns-in_err-behind-clause-refused g t c =
@@ -290,7 +290,7 @@ tell_tree-returns-in_err-close-clause-stops g t c =
     let begun = c.in_ok-begin_node.ensures in
     let has = c.in_ok-behind.ensures.told in
     let p = err_from_is_err_and c.from_residual-in_err-close.result c.from_residual-in_err-close.ensures.1 in
-    rw p.1 (tree_not_closed g.T.Tells.Contents (teller g) c.args.records.now c.begin_node.new.records (seen_tree c.args.tree) c.args.proxies.now c.begin_node.new.teller c.begin_node.new.disk begun.stays begun.told c.args.walk.now.visited (c.args.walk.now.left - 1) c.tell_items.new.walk.left c.tell_items.new.walk.teller c.tell_items.new.disk c.tell_items.new.walk.visited has)
+    rw p.1 (tree_not_closed g.T.Tells.Contents (teller g) c.args.records.now c.begin_node.new.records (seen_tree c.args.tree) c.args.proxies.now c.begin_node.new.teller c.begin_node.new.disk begun.stays begun.told c.args.walk.now.visited (c.args.walk.now.left - 1) c.tell_items.new.walk.left c.tell_items.new.walk.teller c.tell_items.new.disk c.tell_items.new.walk.visited has c.begin_node.ensures.reads)
 
 pub tell_tree-returns-in_err-close-clause-refused : goal.tell_tree-returns-in_err-close-clause-refused
 tell_tree-returns-in_err-close-clause-refused g t c =
@@ -306,7 +306,7 @@ tell_tree-returns-clause-told g t c =
     let has = c.in_ok-behind.ensures.told in
     let closed = c.in_ok-close.ensures c.tell_items.new.disk in
     tree_told g.T.Tells.Contents (teller g) c.args.records.now c.begin_node.new.records (seen_tree c.args.tree) c.args.proxies.now c.begin_node.new.teller c.begin_node.new.disk begun.stays begun.told c.args.walk.now.visited c.args.walk.now.left c.tell_items.new.walk.left c.tell_items.new.walk.teller c.close.new.self
-    c.tell_items.new.disk c.tell_items.new.walk.visited has closed (omega arith)
+    c.tell_items.new.disk c.tell_items.new.walk.visited has closed (omega arith) c.begin_node.ensures.reads
 
 pub tell_interval-loop-item-init : goal.tell_interval-loop-item-init
 tell_interval-loop-item-init g t c =
@@ -324,7 +324,7 @@ tell_interval-loop-item-init g t c =
       rooted = subst HaveRoots (sym proxies) valid.ranged;
       way = subst (λ (f : Gapped). IsOnWay g.D.Disk g.T.Tells.Contents g.T.Tells.Told (IsIntervalAt g.D.Disk c.args.records.now c.args.disk.now (place_of c.args.rid) c.args.roots) (AreOf g.D.Disk c.piece_at.new.records c.piece_at.new.disk f c.as_slice-proxies.result.now) c.args.walk.now.teller c.args.disk.now c.args.walk.now.left c.args.walk.now.visited c.begin.new.self c.piece_at.new.disk c.args.walk.now.left c.visit.new.self) (sym roots)
           (subst (λ (ps : List Proxy). IsOnWay g.D.Disk g.T.Tells.Contents g.T.Tells.Told (IsIntervalAt g.D.Disk c.args.records.now c.args.disk.now (place_of c.args.rid) c.args.roots) (AreOf g.D.Disk c.piece_at.new.records c.piece_at.new.disk c.in_ok-piece.piece.body.roots ps) c.args.walk.now.teller c.args.disk.now c.args.walk.now.left c.args.walk.now.visited c.begin.new.self c.piece_at.new.disk c.args.walk.now.left c.visit.new.self) (sym proxies)
-          (interval_begins g.T.Tells.Contents (teller g) c.args.records.now c.piece_at.new.records (place_of c.args.rid) c.args.roots paused c.piece_at.ensures.still c.args.walk.now.left _ c.args.walk.now.visited c.visit.new.self c.in_ok-piece.piece c.begin.new.self visits c.in_ok-piece.ensures.stays.1 c.in_ok-piece.ensures.ok (ap (λ (p : Piece). gapped_weight p.body.roots) c.piece.view_is) (c.in_ok-begin.ensures.told c.piece_at.new.disk)));
+          (interval_begins g.T.Tells.Contents (teller g) c.args.records.now c.piece_at.new.records (place_of c.args.rid) c.args.roots paused c.piece_at.ensures.still c.args.walk.now.left _ c.args.walk.now.visited c.visit.new.self c.in_ok-piece.piece c.begin.new.self visits c.in_ok-piece.ensures.stays.1 c.in_ok-piece.ensures.ok (ap (λ (p : Piece). gapped_weight p.body.roots) c.piece.view_is) (c.in_ok-begin.ensures.told c.piece_at.new.disk) c.pause.ensures.unread c.piece_at.ensures.reads));
       read = interval_read (teller g) (nearing g) {r = c.args.records.now} {roots = c.args.roots} c.args.depth paused c.in_ok-pause.ensures.gives c.pause.ensures.unread c.piece_at.ensures.still c.piece_at.ensures.reads (seen_items c.roots-items.result) c.as_slice-proxies.result.now c.in_ok-piece.piece
           c.in_ok-piece.ensures.ok valid c.in_ok-piece.ensures.roots roots proxies c.in_ok-begin.ensures.near;
     }
@@ -413,11 +413,11 @@ tell_items-loop-item-preserved g t c =
 pub tell_interval-returns-in_err-visit-clause-stops : goal.tell_interval-returns-in_err-visit-clause-stops
 tell_interval-returns-in_err-visit-clause-stops g t c =
     let p = err_from_is_err_and c.from_residual-in_err-visit.result c.from_residual-in_err-visit.ensures.1 in
-    rw p.1 (stops_at_once g.T.Tells.Contents (teller g) (IsIntervalAt g.D.Disk c.args.records.now c.args.disk.now (place_of c.args.rid) c.args.roots) c.pause.new.self c.pause.new.disk c.in_ok-pause.ensures.ok)
+    rw p.1 (stops_at_once g.T.Tells.Contents (teller g) (IsIntervalAt g.D.Disk c.args.records.now c.args.disk.now (place_of c.args.rid) c.args.roots) c.pause.new.self c.pause.new.disk c.in_ok-pause.ensures.ok (λ seen l is. let same = c.pause.ensures.unread in omega (arith, same)))
 
 pub tell_interval-returns-then-not-branch-clause-stops : goal.tell_interval-returns-then-not-branch-clause-stops
 tell_interval-returns-then-not-branch-clause-stops g t c =
-    stops_at_once g.T.Tells.Contents (teller g) (IsIntervalAt g.D.Disk c.args.records.now c.args.disk.now (place_of c.args.rid) c.args.roots) c.pause.new.self c.pause.new.disk c.in_ok-pause.ensures.ok
+    stops_at_once g.T.Tells.Contents (teller g) (IsIntervalAt g.D.Disk c.args.records.now c.args.disk.now (place_of c.args.rid) c.args.roots) c.pause.new.self c.pause.new.disk c.in_ok-pause.ensures.ok (λ seen l is. let same = c.pause.ensures.unread in omega (arith, same))
 
 pub tell_interval-returns-then-not-branch-clause-refused : goal.tell_interval-returns-then-not-branch-clause-refused
 tell_interval-returns-then-not-branch-clause-refused g t c =
@@ -439,7 +439,7 @@ tell_tree-returns-then-spot-eq0-clause-refused g t c =
 
 pub tell_tree-returns-then-not-is_possible-clause-stops : goal.tell_tree-returns-then-not-is_possible-clause-stops
 tell_tree-returns-then-not-is_possible-clause-stops g t c =
-    stops_at_once g.T.Tells.Contents (teller g) (IsTreeOf g.D.Disk c.args.records.now c.args.disk.now (seen_tree c.args.tree) c.args.proxies.now) c.args.walk.now.teller c.args.disk.now ((teller g).asked c.args.walk.now.teller c.args.disk.now c.args.disk.now none_still)
+    stops_at_once g.T.Tells.Contents (teller g) (IsTreeOf g.D.Disk c.args.records.now c.args.disk.now (seen_tree c.args.tree) c.args.proxies.now) c.args.walk.now.teller c.args.disk.now ((teller g).asked c.args.walk.now.teller c.args.disk.now c.args.disk.now none_still) (λ seen l is. omega arith)
 
 pub tell_tree-returns-then-not-is_possible-clause-refused : goal.tell_tree-returns-then-not-is_possible-clause-refused
 tell_tree-returns-then-not-is_possible-clause-refused g t c =
