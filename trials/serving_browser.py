@@ -21,7 +21,7 @@ class Browser:
     """One page. What it asked for, and what went wrong in it, is kept."""
 
     def __init__(self, program, folder):
-        words = [program, "--no-sandbox", "--remote-debugging-port=0", f"--user-data-dir={folder}", "--window-size=1200,800", "about:blank"]
+        words = [program, "--headless", "--no-sandbox", "--remote-debugging-port=0", f"--user-data-dir={folder}", "--window-size=1200,800", "about:blank"]
         self.process = subprocess.Popen(words, stderr=subprocess.PIPE, stdout=subprocess.DEVNULL)
         self.number, self.wrong, self.asked = 0, [], []
 
