@@ -39,14 +39,17 @@ _natix_shell() {
             dump restore compact backup restore-backup help" -- "$cur"))
         return
     fi
+    if [[ $cur == -* ]]; then
+        case $command in
+            load) COMPREPLY=($(compgen -W "-f --keep --as --json" -- "$cur")) ;;
+            put | graft | replace) COMPREPLY=($(compgen -W "--keep" -- "$cur")) ;;
+            ls | tree | xpath | find | layout | rules) COMPREPLY=($(compgen -W "--json" -- "$cur")) ;;
+            compact) COMPREPLY=($(compgen -W "--k" -- "$cur")) ;;
+        esac
+        return
+    fi
     case $command:$at in
-        load:* | save:1 | put:1 | dump:* | restore:* | restore-backup:* | compact:* | backup:*)
-            if [[ $command == load && $cur == -* ]]; then
-                COMPREPLY=($(compgen -W "-f --keep --as --json" -- "$cur"))
-            else
-                _filedir
-            fi
-            ;;
+        load:* | save:1 | put:1 | dump:* | restore:* | restore-backup:* | compact:* | backup:*) _filedir ;;
         ls:0 | tree:0 | show:0 | get:0 | xpath:0 | find:0 | save:0 | put:0 | rm:* | mv:0 | cp:0 | insert:0 | delete:0 | retext:0 | graft:0 | replace:0 | move:0 | copy:0 | relabel:0 | layout:0)
             COMPREPLY=($(compgen -W "$(natix-shell "$store" ls 2> /dev/null | sed 's|/ (.*||')" -- "$cur"))
             ;;

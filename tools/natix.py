@@ -88,18 +88,18 @@ from __future__ import annotations
 
 import contextlib
 import os
-import re
 import select
-import signal
 import subprocess
 import time
 import xml.etree.ElementTree as tree
-from typing import (IO, Any, Callable, Dict, Generic, Iterable, Iterator, List, NamedTuple, Optional, Sequence, Set, Tuple, Type, TypeVar, Union, cast,
-                    overload)
+from typing import IO, Any, Callable, Dict, Iterable, Iterator, List, Optional, Sequence, Set, Tuple, Type, TypeVar, Union, cast, overload
 
 import natix_faults
 import natix_subtrees
-from natix_sources import Error, NotXml, Pyx, Source, find_natix, new_file, pyx, xml_of
+from natix_commands import (Answer, Command, Ended, Refused, Transaction, checkpoint, delete, document_lines, drop, export, get, graft, insert, layout, load,
+                            names, nothing, rename, retext, rule, rules)
+from natix_lines import Bound, Interval, Loaded, Node, Path, Plan, bytes_of, line_of_node, path_word, read_interval, read_line, read_path, text_of, word_of
+from natix_sources import Error, NotXml, Pyx, Source, find_natix, naming, new_file, pyx, xml_of
 
 __all__ = ["Bound", "Command", "Ended", "Error", "Gathered", "Interval", "Loaded", "Node", "NotXml", "Plan", "Pyx", "Refused", "Store", "Transaction",
            "checkpoint", "delete", "drop", "export", "get", "graft", "insert", "layout", "load", "names", "new_file", "plan", "pyx", "rename", "retext", "rule",
@@ -108,394 +108,9 @@ __all__ = ["Bound", "Command", "Ended", "Error", "Gathered", "Interval", "Loaded
 BLOCK = 65536
 REPLACEMENT = "~natix-new~"  # before the name of a document that is replaced, as this module did it before there were transactions
 MOST_ASKED = 4096  # nodes of a subtree that are asked for one by one
-CHANGES = (b"load", b"drop", b"rename", b"insert", b"delete", b"retext", b"rule")  # what may stand in a transaction
-STATUSES = {
-    1: "the arguments are no command line",
-    2: "the input was refused, or there was a store already",
-    3: "a file of the store failed, or another process had it",
-    4: "reading failed",
-    5: "writing failed",
-    6: "there was no memory",
-    7: "page 0 of the store is missing, or doesn't begin as that of a store",
-    8: "the store is damaged: its pages stand for no documents",
-    9: "there was too much input",
-}
 
-Path = Tuple[int, ...]
-Answer = TypeVar("Answer")
 
-
-# What comes back
-
-
-class Loaded(NamedTuple):
-    """How many nodes a document has, its root counted, how many intervals it is stored in, and what of its XML was left out:
-    comments and the document type, where `keep` didn't ask for them."""
-
-    nodes: int
-    intervals: int
-    left_out: Tuple[str, ...] = ()
-
-    def __repr__(self) -> str:
-        more = f", left_out={self.left_out!r}" if self.left_out else ""
-        return f"Loaded(nodes={self.nodes}, intervals={self.intervals}{more})"
-
-
-class Node(NamedTuple):
-    """A node. Its kind is `document`, `element`, `attribute`, `text` or `instruction`."""
-
-    kind: str
-    name: str = ""
-    content: str = ""
-    children: int = 0
-
-    @classmethod
-    def element(cls, name: str) -> Node:
-        return cls("element", name)
-
-    @classmethod
-    def attribute(cls, name: str, content: str = "") -> Node:
-        return cls("attribute", name, content)
-
-    @classmethod
-    def text(cls, content: str) -> Node:
-        return cls("text", "", content)
-
-    @classmethod
-    def instruction(cls, name: str, content: str = "") -> Node:
-        return cls("instruction", name, content)
-
-    @classmethod
-    def read(cls, line: str) -> Node:
-        """The node of a line of PYX that isn't an end.
-
-        >>> Node.read("Aname tea\\\\tcup")
-        Node(kind='attribute', name='name', content='tea\\tcup', children=0)
-        """
-        if line[:1] not in _KINDS:
-            raise ValueError(f"{line!r} is no line of PYX that says a node")
-        return _line_node(_bytes(line), 0)
-
-
-class Interval(NamedTuple):
-    """Children of the node at `parent`, from the `first` to the `last`, and what the part of the document that is kept
-    with them weighs. The interval of the root alone has no parent."""
-
-    parent: Optional[Path]
-    first: int
-    last: int
-    weight: int
-
-
-class Bound(NamedTuple):
-    """What is certified of a node's subtree: docs/FORMATS.md, "Plans"."""
-
-    least: int
-    lean: int
-    nearly: int
-
-
-class Plan(NamedTuple):
-    """Intervals that cut a document into as few parts as possible, and a bound for each node."""
-
-    intervals: List[Interval]
-    bounds: List[Bound]
-
-
-# What goes wrong
-
-
-class Refused(Error):
-    """A refusal, which changed nothing: its word as in docs/FORMATS.md, and where it has them the line of the PYX, the path
-    of the node and its weight. `fields` are the words of the refusal as they came, `command` is what was refused, and `name` the document that it is
-    about, where it is about one. Of a transaction `number` says which of its commands was refused, from 1."""
-
-    def __init__(self, said: str, command: str = "", number: Optional[int] = None) -> None:
-        super().__init__(said if number is None else f"{said}, by command {number} of a transaction: {command}")
-        self.command, self.number, self.said = command, number, said
-        words = command.split(" ", 2)
-        self.name: Optional[str] = words[1] if len(words) > 1 and words[0] not in ("rule", "begin;") else None
-        self.fields: Tuple[str, ...] = tuple(said.split())
-        self.word: str = self.fields[0] if self.fields else said
-        self.line: Optional[int] = None
-        self.path: Optional[Path] = None
-        self.weight: Optional[int] = None
-        if self.word == "pyx" and len(self.fields) == 3:
-            self.line, self.word = int(self.fields[1]), self.fields[2]
-        elif self.word == "plan-line":
-            self.line = int(self.fields[1])
-        elif self.word == "too-heavy":
-            self.path, self.weight = read_path(self.fields[1]), int(self.fields[2])
-
-
-class Ended(Error):
-    """The program ended: `status` is its exit status, or below 0 the signal that ended it, and `meaning` says what that is.
-
-    Where a store can't be opened, `why` says who has it, or what is missing, as far as that shows.
-
-    `answered` are the commands of the call that were answered, each with its answer, and `unanswered` those that
-    weren't; `count` says how many were answered in the whole session. What was answered is kept. Of the rest at most one
-    is, the first that changes the store: `uncertain`, None where there is none."""
-
-    def __init__(self, status: int, said: str, answered: List[Tuple[str, Any]], unanswered: List[str], count: int, uncertain: Optional[str],
-                 why: Optional[str] = None) -> None:
-        self.status, self.said, self.count = status, said, count
-        self.answered, self.unanswered, self.uncertain = answered, unanswered, uncertain
-        self.why = why  # what was found out about it from outside
-        self.meaning = why or (STATUSES.get(status, "") if status >= 0 else f"a signal ended it: {_signal_name(-status)}")
-        what = f"natix ended with {status}: {self.meaning or 'the end of its input'}" + (f" ({said})" if said else "")
-        if answered or unanswered:
-            what += f"; of this call {len(answered)} commands were answered, and {len(unanswered)} weren't"
-        if uncertain is not None:
-            what += f", of which `{uncertain}` may have been carried out"
-        super().__init__(what)
-
-
-def _signal_name(number: int) -> str:
-    try:
-        return signal.Signals(number).name
-    except ValueError:
-        return str(number)
-
-
-# Words and lines
-
-
-def _bytes(text: Union[str, bytes]) -> bytes:
-    return text if isinstance(text, bytes) else text.encode("utf-8", "surrogateescape")
-
-
-def _text(data: bytes) -> str:
-    return data.decode("utf-8", "surrogateescape")
-
-
-_ESCAPES = {b"\\n": b"\n", b"\\t": b"\t", b"\\r": b"\r", b"\\\\": b"\\"}
-_ESCAPE = re.compile(rb"\\[ntr\\]")
-
-
-def _escaped(content: Union[str, bytes]) -> bytes:
-    data = _bytes(content).replace(b"\\", b"\\\\")
-    return data.replace(b"\n", b"\\n").replace(b"\t", b"\\t").replace(b"\r", b"\\r")
-
-
-def _content(data: bytes) -> str:
-    return _text(_ESCAPE.sub(lambda found: _ESCAPES[found.group()], data) if b"\\" in data else data)
-
-
-def _word(word: Union[str, bytes]) -> bytes:
-    """A word of a command. One that would be more than a word is no name for natix either."""
-    data = _bytes(word)
-    if not data or re.search(rb"[\0- ]", data):
-        raise ValueError(f"{word!r} is no word of a command")
-    return data
-
-
-def _path(path: Sequence[int]) -> bytes:
-    if any(type(position) is not int or position < 0 for position in path):
-        raise ValueError(f"{path!r} is no path: it is a tuple of positions from 0 on")
-    return b"".join(b"/%d" % position for position in path) or b"/"
-
-
-def read_path(text: str) -> Path:
-    """The path that `/0/2` is."""
-    return tuple(int(position) for position in text.split("/")[1:] if position)
-
-
-_KINDS = {"(": "element", "A": "attribute", "-": "text", "?": "instruction"}
-_CODES = {kind: code.encode() for code, kind in _KINDS.items()}
-
-
-def _node_line(node: Node) -> bytes:
-    """The line of a node, as of an `insert`."""
-    if node.kind not in _CODES:
-        raise ValueError(f"{node.kind!r} is no kind of a node that can be put in")
-    code, content = _CODES[node.kind], _escaped(node.content)
-    if node.kind == "text":
-        return code + content
-    name = _bytes(node.name)
-    if b"\n" in name or b"\r" in name or b" " in name:
-        raise ValueError(f"{node.name!r} is no name")
-    return code + name + (b" " + content if node.kind == "attribute" or content else b"")
-
-
-def _read_node(reply: List[bytes]) -> Node:
-    _, children, line = reply[0].split(b" ", 2)
-    return _line_node(line, int(children))
-
-
-def _line_node(line: bytes, children: int) -> Node:
-    kind = _KINDS.get(_text(line[:1]))
-    if kind is None:
-        return Node("document", "", "", children)
-    if kind == "text":
-        return Node(kind, "", _content(line[1:]), children)
-    name, _, content = line[1:].partition(b" ")
-    return Node(kind, _text(name), _content(content), children)
-
-
-def read_line(line: str) -> Tuple[str, str, str]:
-    """The code of a line of PYX, its name and its content; that of a text has no name."""
-    code, rest = line[:1], line[1:]
-    name, _, content = ("", "", rest) if code == "-" else rest.partition(" ")
-    return code, name, _content(_bytes(content)) if "\\" in content else content
-
-
-def _read_interval(line: bytes) -> Interval:
-    words = line.split()
-    if words[0] == b"root":
-        return Interval(None, 0, 0, int(words[1]))
-    return Interval(read_path(_text(words[1])), int(words[2]), int(words[3]), int(words[4]))
-
-
-# Commands
-
-
-class Command(Generic[Answer]):
-    """A command of a script, with how its reply is read. The functions below make them."""
-
-    __slots__ = ("line", "body", "read", "has_lines", "changes")
-
-    def __init__(self, line: bytes, read: Callable[[List[bytes]], Answer], has_lines: bool = False, changes: bool = False, body: bytes = b"") -> None:
-        self.line, self.read, self.has_lines, self.changes, self.body = line, read, has_lines, changes, body
-
-    def __repr__(self) -> str:
-        return _text(self.line[:200])
-
-    @property
-    def word(self) -> bytes:
-        return self.line.partition(b" ")[0]
-
-    @property
-    def documents(self) -> List[str]:
-        """The names of the documents that it is about."""
-        names = {b"rename": 2, b"rule": 0}.get(self.word, 1)
-        return [_text(name) for name in self.line.split(b" ", 3)[1:1 + names]]
-
-    def refused(self, said: str) -> Refused:
-        """What is raised where this is what it is refused by."""
-        return Refused(said, repr(self))
-
-
-class Transaction(Command[List[Any]]):
-    """Commands that change the store, carried out as one: all of them, or where one is refused none. Its answer is theirs."""
-
-    __slots__ = ("commands",)
-
-    def __init__(self, commands: Iterable[Command[Any]]) -> None:
-        self.commands = list(commands)
-        for command in self.commands:
-            if command.word not in CHANGES:
-                raise ValueError(f"`{command!r}` can't stand in a transaction")
-        body = b"".join(part for command in self.commands for part in (command.line, b"\n", command.body))
-        super().__init__(b"begin", self.answers, has_lines=True, changes=bool(self.commands), body=body + b"commit\n")
-
-    def __repr__(self) -> str:
-        shown = [repr(command) for command in self.commands[:3]]
-        more = len(self.commands) - len(shown)
-        return "; ".join(["begin", *shown, *([f".. {more} more"] if more else []), "commit"])
-
-    @property
-    def documents(self) -> List[str]:
-        return list(dict.fromkeys(name for command in self.commands for name in command.documents))
-
-    def answers(self, reply: List[bytes]) -> List[Any]:
-        return [command.read([line]) for command, line in zip(self.commands, reply)]
-
-    def refused(self, said: str) -> Refused:
-        found = re.fullmatch(r"at ([0-9]+) (.*)", said, re.S)
-        if not found:
-            return super().refused(said)
-        number = int(found[1])
-        return Refused(found[2], repr(self.commands[number - 1]), number)
-
-
-def _nothing(reply: List[bytes]) -> None:
-    return None
-
-
-def _read_loaded(reply: List[bytes]) -> Loaded:
-    _, nodes, intervals = reply[0].split()
-    return Loaded(int(nodes), int(intervals))
-
-
-def load(name: str, source: Source, keep: bool = False) -> Command[Loaded]:
-    """Keeps a document under a new name."""
-    lines = pyx(source, keep)
-    return Command(b"load " + _word(name), lambda reply: _read_loaded(reply)._replace(left_out=lines.left_out), changes=True, body=_document(lines))
-
-
-def drop(name: str) -> Command[None]:
-    """Forgets a document."""
-    return Command(b"drop " + _word(name), _nothing, changes=True)
-
-
-def rename(old: str, new: str) -> Command[None]:
-    """Gives a document another name, which is new."""
-    return Command(b"rename %b %b" % (_word(old), _word(new)), _nothing, changes=True)
-
-
-def names() -> Command[Dict[str, int]]:
-    """The documents, each with its number of nodes."""
-    return Command(b"names", lambda reply: {_text(name): int(nodes) for _, name, nodes in (line.split() for line in reply)}, has_lines=True)
-
-
-def export(name: str) -> Command[Pyx]:
-    """A document's lines."""
-    return Command(b"export " + _word(name), lambda reply: Pyx(b"".join(line + b"\n" for line in reply)), has_lines=True)
-
-
-def insert(name: str, path: Sequence[int], node: Node) -> Command[None]:
-    """Puts a node without children at the path."""
-    return Command(b"insert %b %b %b" % (_word(name), _path(path), _node_line(node)), _nothing, changes=True)
-
-
-def delete(name: str, path: Sequence[int]) -> Command[None]:
-    """Takes away the node at the path, and all below it."""
-    return Command(b"delete %b %b" % (_word(name), _path(path)), _nothing, changes=True)
-
-
-def graft(name: str, path: Sequence[int], lines: bytes) -> List[Command[None]]:
-    """The commands that put nodes with all below them at the path: those of some lines of PYX, beside each other."""
-    return [Command(b"insert %b %b %b" % (_word(name), _path(here), line), _nothing, changes=True) for here, line in natix_subtrees.placed(path, lines)]
-
-
-def retext(name: str, path: Sequence[int], content: Union[str, bytes]) -> Command[None]:
-    """Replaces the content of the node at the path."""
-    return Command(b"retext %b %b %b" % (_word(name), _path(path), _escaped(content)), _nothing, changes=True)
-
-
-def get(name: str, path: Sequence[int]) -> Command[Node]:
-    """The node at the path."""
-    return Command(b"get %b %b" % (_word(name), _path(path)), _read_node)
-
-
-def layout(name: str) -> Command[List[Interval]]:
-    """The intervals in which a document is stored."""
-    return Command(b"layout " + _word(name), lambda reply: [_read_interval(line) for line in reply], has_lines=True)
-
-
-def rule(parent: str, child: str, entry: str) -> Command[None]:
-    """Says what is asked of such a child below such a parent: `standalone`, `cluster` or `free`."""
-    return Command(b"rule %b %b %b" % (_word(parent), _word(child), _word(entry)), _nothing, changes=True)
-
-
-def rules() -> Command[Dict[Tuple[str, str], str]]:
-    """The entries that aren't `free`, by parent and child."""
-    return Command(b"rules", lambda reply: {(_text(parent), _text(child)): _text(entry) for _, parent, child, entry in (line.split() for line in reply)}, has_lines=True)
-
-
-def checkpoint() -> Command[None]:
-    """Empties the log."""
-    return Command(b"checkpoint", _nothing, changes=True)
-
-
-def _document(source: Source) -> bytes:
-    """A document's lines, and the dot behind them."""
-    lines = pyx(source)
-    dot = re.search(rb"^\.\r?$", lines, re.M)
-    if dot:
-        raise ValueError(f"line {lines.count(10, 0, dot.start()) + 1} of the document is a dot, which would end it")
-    return lines + (b".\n" if lines.endswith(b"\n") or not lines else b"\n.\n")
+# Commands without a session
 
 
 def _run(words: Sequence[str], source: bytes) -> List[bytes]:
@@ -503,9 +118,9 @@ def _run(words: Sequence[str], source: bytes) -> List[bytes]:
     done = subprocess.run([find_natix(), *words], input=source, stdout=subprocess.PIPE, stderr=subprocess.PIPE)
     lines = done.stdout.split(b"\n")[:-1]
     if done.returncode == 2:
-        raise Refused(_text(lines[0]).partition(" ")[2], " ".join(words))
+        raise Refused(text_of(lines[0]).partition(" ")[2], " ".join(words))
     if done.returncode:
-        raise Ended(done.returncode, _text(done.stderr).strip(), [], [" ".join(words)], 0, None)
+        raise Ended(done.returncode, text_of(done.stderr).strip(), [], [" ".join(words)], 0, None)
     return lines
 
 
@@ -532,7 +147,7 @@ def plan(source: Source, k: int) -> Plan:
             _, _, least, lean, nearly = line.split()
             bounds.append(Bound(int(least), int(lean), int(nearly)))
         else:
-            intervals.append(_read_interval(line))
+            intervals.append(read_interval(line))
     return Plan(intervals, bounds)
 
 
@@ -544,9 +159,9 @@ def verify(source: Source, claimed: Plan, k: int) -> int:
     """
     lines = []
     for parent, first, last, weight in claimed.intervals:
-        lines.append(b"root %d\n" % weight if parent is None else b"run %b %d %d %d\n" % (_path(parent), first, last, weight))
+        lines.append(b"root %d\n" % weight if parent is None else b"run %b %d %d %d\n" % (path_word(parent), first, last, weight))
     lines += [b"bound %d %d %d %d\n" % (number, *bound) for number, bound in enumerate(claimed.bounds)]
-    return int(_run(["_", "verify", str(k)], _document(source) + b"".join(lines))[0].split()[1])
+    return int(_run(["_", "verify", str(k)], document_lines(source) + b"".join(lines))[0].split()[1])
 
 
 # Stores
@@ -615,7 +230,7 @@ class Store:
         for pipe in (self._process.stdin, self._process.stdout):
             os.set_blocking(cast(IO[bytes], pipe).fileno(), False)
         try:
-            self.ask_all([Command(b"", _nothing)])  # answered as a line that is no command once the store is open
+            self.ask_all([Command(b"", nothing)])  # answered as a line that is no command once the store is open
         except Ended as ended:
             why = natix_faults.explain(self.path) if ended.status == 3 else natix_faults.missing(self.path) if ended.status == 7 else None
             raise Ended(ended.status, ended.said, [], [], 0, None, why) from None
@@ -631,10 +246,10 @@ class Store:
                 words.append(str(usual if value is None else value))
         done = subprocess.run([find_natix(program), *words], stdin=subprocess.DEVNULL, stdout=subprocess.PIPE, stderr=subprocess.PIPE)
         if done.returncode == 2:
-            raise Refused(_text(done.stdout).strip().partition(" ")[2], " ".join(words))
+            raise Refused(text_of(done.stdout).strip().partition(" ")[2], " ".join(words))
         if done.returncode:
             why = natix_faults.explain(words[0]) if done.returncode == 3 else None
-            raise Ended(done.returncode, _text(done.stderr).strip(), [], [], 0, None, why)
+            raise Ended(done.returncode, text_of(done.stderr).strip(), [], [], 0, None, why)
         return cls(path, program)
 
     @classmethod
@@ -675,7 +290,7 @@ class Store:
         status = self._process.wait()
         for pipe in (self._process.stdin, self._process.stdout, self._process.stderr):
             cast(IO[bytes], pipe).close()
-        return status, _text(said).strip()
+        return status, text_of(said).strip()
 
     def ask(self, command: Command[Answer]) -> Answer:
         """The answer to a command."""
@@ -746,7 +361,7 @@ class Store:
             command = asked[len(answers)]
             lines.append(line)
             if line.startswith(b"error ") and len(lines) == 1:
-                answers.append(command.refused(_text(line[6:])))
+                answers.append(command.refused(text_of(line[6:])))
             elif not command.has_lines:
                 answers.append(command.read(lines))
             elif line == b".":
@@ -761,8 +376,9 @@ class Store:
         """Raises what says that the program ended."""
         status, said = self._wait()
         left = asked[len(answers):]
+        why = natix_faults.little_room(self.path) if status == 3 else None
         uncertain = next((repr(command) for command in left if command.changes), None)
-        raise Ended(status, said, [(repr(command), answer) for command, answer in zip(asked, answers)], [repr(command) for command in left], self._answered, uncertain)
+        raise Ended(status, said, [(repr(command), answer) for command, answer in zip(asked, answers)], [repr(command) for command in left], self._answered, uncertain, why)
 
     @contextlib.contextmanager
     def transaction(self) -> Iterator[Gathered]:
@@ -842,7 +458,7 @@ class Store:
     def _cut_out(self, name: str, path: Path) -> Pyx:
         """The same out of all lines of the document."""
         lines: List[bytes] = []
-        taker = natix_subtrees.Subtrees([path], lambda _, line: lines.append(_bytes(line)))
+        taker = natix_subtrees.Subtrees([path], lambda _, line: lines.append(bytes_of(line)))
         taker.write(self.ask(export(name)))
         if taker.error:
             raise taker.error
@@ -876,7 +492,7 @@ class Store:
 
     def relabel(self, name: str, path: Sequence[int], label: str) -> None:
         """Gives an element, an attribute or an instruction another name."""
-        lines = natix_subtrees.relabelled(self.subtree(name, path), _word(label))
+        lines = natix_subtrees.relabelled(self.subtree(name, path), word_of(label))
         with self.transaction():
             self._replace(name, tuple(path), lines)
 
@@ -918,7 +534,8 @@ class Store:
         lines = self.ask(export(name))
         if to is Pyx:
             return lines
-        xml = xml_of(bytes(lines))
+        with naming(name):
+            xml = xml_of(bytes(lines))
         if to is str:
             return xml.decode()
         if to is bytes:
@@ -987,7 +604,7 @@ class Store:
 def _fragment(source: Union[Source, Node], keep: bool) -> Pyx:
     """The lines of what is to stand at a path."""
     if isinstance(source, Node):
-        line = _node_line(source)
+        line = line_of_node(source)
         return Pyx(line + b"\n" + (b")" + line[1:] + b"\n" if source.kind == "element" else b""))
     lines = natix_subtrees.fragment(source, keep)
     if not lines.strip():
@@ -998,11 +615,11 @@ def _fragment(source: Union[Source, Node], keep: bool) -> Pyx:
 def _add_lines(nodes: Dict[Path, Node], path: Path, lines: List[bytes]) -> None:
     """Adds the lines of the node at a path, and of all below it."""
     node = nodes[path]
-    lines.append(_node_line(node))
+    lines.append(line_of_node(node))
     for at in range(node.children):
         _add_lines(nodes, (*path, at), lines)
     if node.kind == "element":
-        lines.append(b")" + _bytes(node.name))
+        lines.append(b")" + bytes_of(node.name))
 
 
 def _store_word(path: Union[str, "os.PathLike[str]"]) -> str:

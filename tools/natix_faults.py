@@ -8,6 +8,7 @@ from typing import List, Optional
 
 MAGIC = b"NATIXST1"  # the first bytes of a store
 SHOWN = 10  # stores that are named
+LITTLE_ROOM = 1 << 20  # bytes; the write that failed may have been of more than what was left
 
 
 def explain(path: str) -> Optional[str]:
@@ -15,6 +16,8 @@ def explain(path: str) -> Optional[str]:
     folder = os.path.dirname(path) or "."
     if not os.path.isdir(folder):
         return f"there is no folder {folder}"
+    if not os.path.exists("/proc/self/fd"):
+        return "there is no /proc, without which natix can't tell the files of a store from its own input and output"
     for file in (path, path + ".log"):
         if os.path.isdir(file):
             return f"{file} is a folder"
@@ -25,7 +28,17 @@ def explain(path: str) -> Optional[str]:
                 return f"{path} is in use by {holder(file)}"
         elif not os.access(folder, os.W_OK):
             return f"there is no right to make files in {folder}"
-    return foreign(path)
+    return foreign(path) or little_room(path)
+
+
+def little_room(path: str) -> Optional[str]:
+    """How little room the disk of a store has, where that may be why a write failed."""
+    try:
+        found = os.statvfs(os.path.dirname(path) or ".")
+    except OSError:
+        return None
+    left = found.f_bavail * found.f_frsize
+    return f"the disk that has {path} has {left:,} bytes left" if left < LITTLE_ROOM else None
 
 
 def foreign(path: str) -> Optional[str]:

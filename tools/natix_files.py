@@ -26,6 +26,7 @@ import time
 from typing import IO, Any, Callable, List, Optional, Tuple, cast
 
 import natix
+import natix_lines
 import natix_sources
 
 BLOCK = 65536
@@ -293,7 +294,7 @@ class Files:
             if not begun and rest.startswith(b"error "[:len(rest)]):
                 if rest.endswith(b"\n"):
                     self.store._answered += 1
-                    return natix.Refused(natix._text(rest[6:-1]), repr(command)), False
+                    return natix.Refused(natix_lines.text_of(rest[6:-1]), repr(command)), False
                 continue
             ended = rest.endswith(b"\n.\n")
             lines, rest = (rest[:-2], b"") if ended else (rest[:-3], rest[-3:])

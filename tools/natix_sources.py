@@ -112,7 +112,7 @@ def pyx(source: Source, keep: bool = False) -> Pyx:
     if isinstance(source, Pyx):
         return source
     if isinstance(source, os.PathLike):
-        with open(source, "rb") as file:
+        with open(source, "rb") as file, naming(os.fspath(source)):
             return pyx(file, keep)
     if isinstance(source, str):
         source = re.sub(r"^(\ufeff?<\?xml[^>]*?)\s+encoding\s*=\s*(\"[^\"]*\"|'[^']*')", r"\1", source).encode()
@@ -124,6 +124,15 @@ def pyx(source: Source, keep: bool = False) -> Pyx:
     made = Pyx(lines)
     made.left_out = left_out_of(said)
     return made
+
+
+@contextlib.contextmanager
+def naming(what: str) -> Iterator[None]:
+    """Says of what is refused within which file or document it is of."""
+    try:
+        yield
+    except NotXml as error:
+        raise NotXml(f"{what}: {error}") from None
 
 
 # Trees
@@ -178,7 +187,10 @@ def new_file(path: Union[str, "os.PathLike[str]"]) -> Iterator[IO[bytes]]:
         with open(path, "wb") as file:
             yield cast(IO[bytes], file)
         return
-    handle, name = tempfile.mkstemp(dir=os.path.dirname(path), prefix=os.path.basename(path)[:100])
+    try:
+        handle, name = tempfile.mkstemp(dir=os.path.dirname(path), prefix=os.path.basename(path)[:100])
+    except OSError as error:
+        raise type(error)(error.errno, error.strerror, path) from None  # nobody knows the name that the file has meanwhile
     try:
         with os.fdopen(handle, "wb") as file:
             yield cast(IO[bytes], file)

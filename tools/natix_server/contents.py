@@ -14,6 +14,7 @@ import tempfile
 from typing import IO, Dict, List, NamedTuple, Optional, cast
 
 import natix
+import natix_lines
 import natix_sources
 
 FILE = "natix-file"
@@ -110,7 +111,7 @@ def lines_of_file(file: File) -> natix.Pyx:
     if not is_text(content):
         nodes.append(natix.Node.attribute("coding", "base64"))
         content = base64.b64encode(content)
-    lines = [natix._node_line(node) for node in nodes] + [b"-" + natix._escaped(piece) for piece in pieces(content)]
+    lines = [natix_lines.line_of_node(node) for node in nodes] + [b"-" + natix_lines.escaped(piece) for piece in pieces(content)]
     return natix.Pyx(b"\n".join([b"(" + FILE.encode(), *lines, b")" + FILE.encode()]) + b"\n")
 
 
@@ -123,10 +124,10 @@ def file_of(lines: bytes) -> Optional[File]:
     *inner, last = lines.split(b"\n")[1:-1]
     for line in inner:
         if line[:1] == b"A" and not content:
-            node = natix._line_node(line, 0)
+            node = natix_lines.node_of_line(line, 0)
             said[node.name] = node.content
         elif line[:1] == b"-":
-            content.append(natix._bytes(natix._content(line[1:])))
+            content.append(natix_lines.bytes_of(natix_lines.content_of(line[1:])))
         else:
             return None
     if not set(said) <= {"type", "coding"} or said.get("coding", "base64") != "base64" or last != b")" + FILE.encode():

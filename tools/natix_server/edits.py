@@ -6,6 +6,7 @@ import re
 from typing import Any, List, Tuple
 
 import natix
+import natix_lines
 
 from .answers import Refusal
 from .asked import read_path
@@ -44,9 +45,9 @@ def of_line(name: str, line: bytes) -> natix.Command[Any]:
     if word == b"delete" and not space:
         return natix.delete(name, path)
     if word == b"retext":
-        return natix.retext(name, path, natix._content(content))
+        return natix.retext(name, path, natix_lines.content_of(content))
     if word == b"insert" and space:
-        return natix.insert(name, path, natix.Node.read(natix._text(content)))
+        return natix.insert(name, path, natix.Node.read(natix_lines.text_of(content)))
     raise Refusal(400, "syntax", "a line is `insert PATH LINE`, `delete PATH` or `retext PATH CONTENT`")
 
 
@@ -76,7 +77,7 @@ def inserts(name: str, path: Tuple[int, ...], lines: bytes) -> Commands:
             here[-1] += 1
             continue
         try:
-            commands.append(natix.insert(name, here, natix.Node.read(natix._text(line))))
+            commands.append(natix.insert(name, here, natix.Node.read(natix_lines.text_of(line))))
         except ValueError as why:
             raise Refusal(422, "pyx", str(why), line=number)
         if line[:1] == b"(":

@@ -8,6 +8,7 @@ from collections import deque
 from typing import Any, Callable, Deque, Dict, Generic, List, Optional, Sequence, Tuple, TypeVar, Union, cast
 
 import natix
+import natix_commands
 import natix_faults
 from natix_sources import find_natix
 
@@ -21,7 +22,7 @@ class Ended(Exception):
     """natix ended before it had answered: `known` says what is known of the command that waits."""
 
     def __init__(self, status: int, said: str, known: str, why: Optional[str] = None) -> None:
-        meaning = why or (natix.STATUSES.get(status, "the end of its input") if status >= 0 else "a signal ended it")
+        meaning = why or (natix_commands.STATUSES.get(status, "the end of its input") if status >= 0 else "a signal ended it")
         super().__init__(f"natix ended with {status}: {meaning}" + (f" ({said})" if said else ""))
         self.status, self.said, self.known, self.why = status, said, known, why
 

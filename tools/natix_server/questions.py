@@ -9,6 +9,7 @@ from __future__ import annotations
 from typing import Any, Dict, Iterator, List, NamedTuple, Optional, Set, Tuple
 
 import natix
+import natix_lines
 import natix_steps
 from natix_shell.questions import Question, of_xpath
 
@@ -73,7 +74,7 @@ def label_of(line: bytes) -> bytes:
 
 def content_of(line: bytes) -> str:
     """The content of a node, by its line; an element has none."""
-    return "" if line[:1] == b"(" else natix._line_node(line, 0).content
+    return "" if line[:1] == b"(" else natix_lines.node_of_line(line, 0).content
 
 
 class Steps:
@@ -164,7 +165,7 @@ def tree_of(lines: bytes, whole: bool) -> Dict[str, Any]:
         if line[:1] == b")":
             open_nodes.pop()
             continue
-        fields = of_node(natix._line_node(line, 0))
+        fields = of_node(natix_lines.node_of_line(line, 0))
         open_nodes[-1].append(fields)
         if line[:1] == b"(":
             fields["children"] = []

@@ -5,6 +5,7 @@ from __future__ import annotations
 from typing import Any, Callable, Dict, Iterator, List, Optional, TypeVar
 
 import natix
+import natix_lines
 import natix_sources
 
 from . import contents, edits, questions
@@ -83,7 +84,7 @@ class Rest:
             tree = await self.library.aside(lambda: of_json(questions.tree_of(part or b"", not path)).body)
             return self.tagged(call, lines, tree, JSON)
         if not part.startswith((b"(", b"?")):
-            return self.tagged(call, lines, natix._bytes(questions.content_of(part[:-1])), "text/plain; charset=utf-8")
+            return self.tagged(call, lines, natix_lines.bytes_of(questions.content_of(part[:-1])), "text/plain; charset=utf-8")
         return self.tagged(call, lines, await self.xml(part), "application/xml; charset=utf-8")
 
     async def whole(self, name: str) -> Shown:
@@ -95,8 +96,8 @@ class Rest:
     async def xml(self, lines: bytes) -> bytes:
         """The XML of a part's lines."""
         if lines.startswith(b"?"):
-            node = natix._line_node(lines[:-1], 0)
-            return natix._bytes(f"<?{node.name}{node.content and ' '}{node.content}?>")
+            node = natix_lines.node_of_line(lines[:-1], 0)
+            return natix_lines.bytes_of(f"<?{node.name}{node.content and ' '}{node.content}?>")
         try:
             return await self.library.aside(natix_sources.xml_of, lines)
         except natix.NotXml as why:
@@ -163,7 +164,7 @@ class Rest:
 
     def of_found(self, lines: bytes, target: Target, most: int) -> bytes:
         some = self.some_found(lines, target, most + 1)
-        found = [{"path": path_text(one.path), "node": self.cut(natix._line_node(one.line, 0))} for one in some[:most]]
+        found = [{"path": path_text(one.path), "node": self.cut(natix_lines.node_of_line(one.line, 0))} for one in some[:most]]
         return of_json({"found": found, "more": len(some) > most}).body
 
     @staticmethod

@@ -23,7 +23,7 @@ class Row(NamedTuple):
 HELP = {
     "ls": Row("[--json] [WHERE]", "lists the documents, or the children of a node, each with its position"),
     "cd": Row("[WHERE]", "moves the cursor to a node; without a word, away from all documents", "`cd ..` goes up."),
-    "tree": Row("[-N] [WHERE]", "shows a node and all below it, with their positions, or N levels of them"),
+    "tree": Row("[--json] [-N] [WHERE]", "shows a node and all below it, with their positions, or N levels of them"),
     "show": Row("[WHERE]", "shows a node as XML, or the content of a text, an attribute or an instruction"),
     "get": Row("[WHERE]", "shows one node whole, on one line"),
     "xpath": Row("[--json] NAME XPATH", "finds nodes, and shows the path and the XML of each",
@@ -46,9 +46,10 @@ HELP = {
                   "\\r and \\\\ stand for what they do in C. WHERE ends with a position; the number of children is behind the last one.", True),
     "delete": Row("WHERE", "takes a node away, and all below it"),
     "retext": Row("WHERE CONTENT", "gives a text, an attribute or an instruction another content", "", True),
-    "graft": Row("WHERE XML", "puts nodes there with all below them; those that stood there and behind it move on",
-                 "XML is any that an element can have, as <a>b</a>text<c/>, or without a < the name of a file that has some; - is standard input.", True),
-    "replace": Row("WHERE XML", "puts nodes in the place of one, and of all below it", "XML is that of `graft`.", True),
+    "graft": Row("[--keep] WHERE XML", "puts nodes there with all below them; those that stood there and behind it move on",
+                 "XML is any that an element can have, as <a>b</a>text<c/>, or without a < the name of a file that has some; - is standard input. "
+                 "--keep keeps comments.", True),
+    "replace": Row("[--keep] WHERE XML", "puts nodes in the place of one, and of all below it", "XML is that of `graft`.", True),
     "move": Row("WHERE WHERE", "takes a node with all below it before the node that is at the other place now, or behind the last one",
                 "The second WHERE ends with a position; a path without a document is one of the first WHERE's."),
     "copy": Row("WHERE WHERE", "puts what stands at the first place, with all below it, to the other one once more"),
@@ -70,7 +71,7 @@ HELP = {
     "restore": Row("[FILE]", "makes a store of such a text", "So: natix-shell --create 256 NEW restore < FILE."),
     "compact": Row("[--k K] NEW", "makes a new store of all documents and rules, checked, and says both sizes",
                    "Where the store's name is a symbolic link it leads to NEW then."),
-    "backup": Row("FILE", "writes all pages of the store as they are now to one file"),
+    "backup": Row("FILE", "writes all pages of the store as they are now to one file; - is standard output"),
     "restore-backup": Row("[FILE]", "makes a store of such a file", "So: natix-shell NEW restore-backup FILE."),
     "help": Row("[COMMAND]", "lists the commands, or says more of one"),
     "quit": Row("", "ends the shell, as Ctrl-D does"),
@@ -110,9 +111,11 @@ class Shell(Looks, Edits, Moves):
 
     def run_words(self, words: List[str]) -> None:
         """Carries out a command whose words are apart."""
-        name = self.command(words[0])
+        name, rest = self.command(words[0]), words[1:]
+        if HELP[name].plain and HELP[name].words.startswith("[--json]") and rest[-1:] == ["--json"]:
+            rest = ["--json", *rest[:-1]]
         if name != "quit":
-            self.carry_out(name, " ".join(words[1:]) if HELP[name].plain else words[1:])
+            self.carry_out(name, " ".join(rest) if HELP[name].plain else rest)
 
     def command(self, word: str) -> str:
         name = OTHER_WORDS.get(word, word)

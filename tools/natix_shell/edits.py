@@ -6,9 +6,10 @@ import os
 from typing import Any, Callable, List, Optional, Tuple
 
 import natix
+import natix_sources
 import natix_subtrees
 
-from .places import Places
+from .places import Places, take_option
 from .session import KEPT_BYTES, TOO_LONG, Edit, Where, Wrong, together
 from .texts import count, meaning
 
@@ -65,16 +66,16 @@ class Edits(Places):
 
     # Subtrees, each by one transaction
 
-    def fragment(self, text: str) -> natix.Pyx:
+    def fragment(self, text: str, keep: bool) -> natix.Pyx:
         """The lines of some XML, or of a file that has some."""
         if "<" in text:
-            return self.some(natix_subtrees.fragment(text))
+            return self.some(natix_subtrees.fragment(text, keep))
         path = os.path.expanduser(text)
         if not path or os.path.isdir(path):
             raise Wrong(f"{text or 'nothing'} is neither XML nor a file that has some")
-        with os.fdopen(os.dup(0), "rb") if path == "-" else open(path, "rb") as file:
+        with os.fdopen(os.dup(0), "rb") if path == "-" else open(path, "rb") as file, natix_sources.naming(path):
             data = file.read()
-        return self.some(natix.Pyx(data) if path.endswith(".pyx") else natix_subtrees.fragment(data))
+            return self.some(natix.Pyx(data) if path.endswith(".pyx") else natix_subtrees.fragment(data, keep))
 
     def some(self, lines: natix.Pyx) -> natix.Pyx:
         if not lines.strip():
@@ -86,8 +87,9 @@ class Edits(Places):
         self.screen.line(f"ok: {count(natix_subtrees.count_nodes(lines), 'node')}{left}")
 
     def do_graft(self, words: str) -> None:
+        keep, words = take_option("--keep", words)
         where, text = self.where_and_rest(words, "XML")
-        self.put_at(where, self.fragment(text), f"graft {where}")
+        self.put_at(where, self.fragment(text, keep), f"graft {where}")
 
     def put_at(self, where: Where, lines: natix.Pyx, said: str) -> None:
         """Puts nodes at a place."""
@@ -97,9 +99,10 @@ class Edits(Places):
         self.told(lines)
 
     def do_replace(self, words: str) -> None:
+        keep, words = take_option("--keep", words)
         where, text = self.where_and_rest(words, "XML")
         self.below(where)
-        lines = self.fragment(text)
+        lines = self.fragment(text, keep)
         tops = natix_subtrees.count_tops(lines)
         self.exchange(where, self.session.lines(where), lines, ((where, -1), (where, tops)), f"replace {where}")
         self.told(lines)

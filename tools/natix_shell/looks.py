@@ -10,7 +10,7 @@ from natix_files import Files
 from natix_subtrees import Subtrees
 
 from . import questions
-from .places import Places, Row, read_words
+from .places import Places, Row, read_words, take_option
 from .session import Where, Wrong
 from .terminal import Enough
 from .texts import XmlWriter, count, described, shown_path
@@ -46,15 +46,21 @@ class Looks(Places):
         self.session.cursor = where
 
     def do_tree(self, words: List[str]) -> None:
-        depth = 256
-        if words and re.fullmatch(r"-[0-9]+", words[0]):
-            depth, words = int(words[0][1:]), words[1:]
-        where = self.where(words)
-        node = self.session.get(where)
-        self.screen.line(f"{shown_path(where.path)} {described(node, self.width(8))}")
+        read = read_words("tree [--json] [-N] [WHERE]", words, "--json")
+        depth, rest = 256, read.rest
+        if rest and re.fullmatch(r"-[0-9]+", rest[0]):
+            depth, rest = int(rest[0][1:]), rest[1:]
+        self.list(self.rows_below(self.where(rest), depth), read.json)
+
+    def rows_below(self, where: Where, depth: int) -> Iterator[Row]:
+        """A node and those below it."""
+        node, path = self.session.get(where), list(where.path)
+        yield f"{shown_path(where.path)} {described(node, self.width(8))}", {"path": shown_path(where.path), **node._asdict()}
         for level, position, below, begins in self.session.walk(where, node, depth):
             if begins and level <= depth:
-                self.screen.line(f"{'  ' * level}{position} {described(below, self.width(2 * level + 8))}")
+                path[len(where.path) + level - 1:] = [position]
+                row = f"{'  ' * level}{position} {described(below, self.width(2 * level + 8))}"
+                yield row, {"path": shown_path(tuple(path)), **below._asdict()}
 
     def do_show(self, words: List[str]) -> None:
         where = self.where(words)
@@ -110,8 +116,7 @@ class Looks(Places):
 
     def question(self, usage: str, words: str) -> Tuple[str, str, bool]:
         """The document and the question of a line, and whether JSON is asked for."""
-        as_json = words.startswith("--json ")
-        words = words[len("--json "):].lstrip() if as_json else words
+        as_json, words = take_option("--json", words)
         cursor = self.session.cursor
         first, _, rest = words.partition(" ")
         name, asked = (cursor.name, words) if cursor is not None and first not in self.session.documents else (first, rest.strip())

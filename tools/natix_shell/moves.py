@@ -2,14 +2,16 @@
 
 from __future__ import annotations
 
+import contextlib
 import os
 import re
 import subprocess
 import sys
-from typing import IO, Any, List, Tuple
+from typing import IO, Any, Iterator, List, Tuple
 
 import natix
-from natix_files import Files
+import natix_sources
+from natix_files import Files, Stopped
 
 from . import copies
 from .places import Places, Row, read_words
@@ -24,6 +26,19 @@ PUT = "put [--keep] NAME FILE"
 def exchange(name: str, lines: natix.Pyx) -> natix.Transaction:
     """What puts a document in the place of the one of that name."""
     return natix.Transaction([natix.drop(name), natix.load(name, lines)])
+
+
+@contextlib.contextmanager
+def naming(name: str, path: str) -> Iterator[None]:
+    """Says of what is refused within, and doesn't end the program, which document and which file it is of."""
+    try:
+        yield
+    except OSError as error:
+        raise Wrong(f"{path}: {error.strerror}")
+    except (natix.Ended, Stopped):
+        raise
+    except (Wrong, ValueError, natix.Error) as error:
+        raise Wrong(f"{name} ({path}): {why(error)}")
 
 
 class Moves(Places):
@@ -44,27 +59,23 @@ class Moves(Places):
         if len(read.rest) != 2:
             raise Wrong(f"usage: {PUT}")
         name, path = read.rest
-        try:
-            self.screen.line(self.load(self.new_name(name), os.path.expanduser(path), True, read.keep)[0])
-        except OSError as error:
-            raise Wrong(f"{path}: {error.strerror}")
+        with naming(name, path):
+            row, _ = self.load(self.new_name(name), os.path.expanduser(path), True, read.keep)
+        self.screen.line(row)
 
     def load_all(self, read: Any, failed: List[str]) -> Any:
         """Loads files, each into its document, and gives the row of each one that is there."""
         for path in read.rest:
             named = getattr(read, "as") or re.sub(r"\.(xml|pyx)$", "", os.path.basename(path))
-            place = f"{named} ({path})"
             try:
-                yield self.load(self.new_name(named), os.path.expanduser(path), read.f, read.keep)
-            except OSError as error:
-                place = path
-                failed.append(f"{path}: {error.strerror}")
-            except (Wrong, ValueError, natix.Refused, natix.NotXml) as error:
-                failed.append(f"{place}: {why(error)}")
+                with naming(named, path):
+                    row = self.load(self.new_name(named, ": --as NAME says one"), os.path.expanduser(path), read.f, read.keep)
+            except Wrong as refused:
+                failed.append(str(refused))
+                self.session.at_work = None
+                self.tell(failed[-1])
             else:
-                continue
-            self.session.at_work = None
-            self.tell(failed[-1])
+                yield row
 
     def load(self, name: str, path: str, replaces: bool, keep: bool) -> Row:
         there = name in self.session.documents
@@ -115,24 +126,25 @@ class Moves(Places):
         if len(words) != 2:
             raise Wrong("usage: save NAME FILE, or save NAME - for standard output")
         name, path = self.document(words[0]), os.path.expanduser(words[1])
-        form = "pyx" if path.endswith(".pyx") else "xml"
-        files = Files(self.session.of(name))
-        if path == "-":
-            sys.stdout.flush()
-            files.copy_out(name, sys.stdout.buffer, lambda *_: self.session.interrupt.asked, form)
-            return
+        with natix_sources.naming(name):
+            if path == "-":
+                sys.stdout.flush()
+                Files(self.session.of(name)).copy_out(name, sys.stdout.buffer, lambda *_: self.session.interrupt.asked)
+                return
+            size = self.save(name, path)
+        self.screen.line(f"{path}: {count(size, 'byte')}")
+
+    def save(self, name: str, path: str) -> int:
+        """Writes a document to a file, and says how many bytes."""
         progress = Progress(self.screen, name, 0, self.session.documents[name])
         try:
             with natix.new_file(path) as file:
-                files.copy_out(name, file, progress, form)
-                size = os.fstat(file.fileno()).st_size
-        except natix.NotXml as error:
-            raise Wrong(f"{name}: {error}")
+                Files(self.session.of(name)).copy_out(name, file, progress, "pyx" if path.endswith(".pyx") else "xml")
+                return os.fstat(file.fileno()).st_size
         except OSError as error:
             raise Wrong(f"{path}: {error.strerror}")
         finally:
             progress.clear()
-        self.screen.line(f"{path}: {count(size, 'byte')}")
 
     # Other names
 
@@ -196,16 +208,24 @@ class Moves(Places):
 
     def do_backup(self, words: List[str]) -> None:
         if len(words) != 1:
-            raise Wrong("usage: backup FILE")
+            raise Wrong("usage: backup FILE, or backup - for standard output")
         path = os.path.expanduser(words[0])
+        if path == "-":
+            sys.stdout.flush()
+            self.ship(sys.stdout.buffer)
+            return
         if os.path.isdir(path):
             raise Wrong(f"{path} is a folder")
         with natix.new_file(path) as file:
-            done = self.session.aside(["ship", "all"], stdin=subprocess.DEVNULL, stdout=file)
-            if done.returncode:
-                raise natix.Error("natix ships no base of the store")
+            self.ship(file)
             size = os.fstat(file.fileno()).st_size
         self.screen.line(f"{words[0]}: {count(size, 'byte')}, all of {self.session.path} as it is now")
+
+    def ship(self, file: IO[bytes]) -> None:
+        """Writes all pages of the store to an open file."""
+        done = self.session.aside(["ship", "all"], stdin=subprocess.DEVNULL, stdout=file)
+        if done.returncode:
+            raise natix.Error("natix ships no base of the store")
 
     def do_compact(self, words: List[str]) -> None:
         read = read_words("compact [--k K] NEW", words, "--k=")

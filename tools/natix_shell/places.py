@@ -35,6 +35,12 @@ def read_words(usage: str, words: List[str], *options: str) -> argparse.Namespac
     return reader.parse_intermixed_args(words)
 
 
+def take_option(option: str, words: str) -> Tuple[bool, str]:
+    """Whether an option stands before the words of a plain command, and these words without it."""
+    has = words.startswith(option + " ")
+    return has, words[len(option):].lstrip() if has else words
+
+
 class Places:
     """Finds the nodes that words lead to."""
 
@@ -103,10 +109,10 @@ class Places:
             raise Wrong(f"there is no document {name}" + (f": {', '.join(near)}?" if near else ""))
         return name
 
-    def new_name(self, name: str) -> str:
+    def new_name(self, name: str, more: str = "") -> str:
         """A name for a document."""
         if not re.fullmatch(r"[!-,.-~][!-~]{0,254}", name) or name.startswith(natix.REPLACEMENT):
-            raise Wrong(f"{quoted(name)} is no name of a document: --as NAME says one")
+            raise Wrong(f"{quoted(name)} is no name of a document{more}")
         return name
 
     def list(self, rows: Iterable[Row], as_json: bool) -> None:

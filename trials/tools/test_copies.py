@@ -1,12 +1,14 @@
 """Copies of a store."""
 
 import os
+import subprocess
+import sys
 
 import pytest
 from hypothesis import HealthCheck, given, settings, strategies
 
 import natix
-from conftest import new_folder
+from conftest import TOOLS, new_folder
 from natix_shell import copies
 
 
@@ -36,6 +38,9 @@ def test_a_backup_makes_the_store_again(shell, ruled, files):
     shell.well(ruled, "backup", "lib.backup")
     assert shell.well("new", "restore-backup", "lib.backup") == "new: made of the backup, and sound\n"
     assert contents(files / "new") == contents(ruled)
+    with open(files / "again.backup", "wb") as again:
+        subprocess.run([sys.executable, TOOLS / "natix-shell", ruled, "backup", "-"], stdout=again, check=True)
+    assert (files / "again.backup").read_bytes() == (files / "lib.backup").read_bytes() and not (files / "-").exists()
     shell.well("new", "rm", "shop")
     (files / "cut").write_bytes((files / "lib.backup").read_bytes()[:-1])
     assert shell("third", "restore-backup", "cut")[1:] == ("natix-shell: third: that is no whole backup (refused stream 0)\n", 2)
@@ -43,8 +48,7 @@ def test_a_backup_makes_the_store_again(shell, ruled, files):
 
 
 def test_compact(shell, ruled, files):
-    for number in range(20):
-        shell.well(ruled, "load", "-f", "article.xml")
+    shell.well(ruled, given="load -f article.xml\n" * 20)
     said = shell.well(ruled, "compact", "new")
     size = sum(os.path.getsize(files / name) for name in ("new", "new.log"))
     assert said.startswith(f"new: 2 documents, checked; {size:,} bytes, and ") and size < os.path.getsize(files / "lib.log")

@@ -2,6 +2,7 @@
 
 import json
 import os
+import re
 import subprocess
 import sys
 import time
@@ -11,6 +12,7 @@ import pytest
 import natix
 import natix_faults
 from conftest import TOOLS
+from natix_shell.commands import HELP
 
 
 USAGE = """usage: natix-shell [--create K] [--wait SECONDS] STORE COMMAND [WORD]..
@@ -165,7 +167,70 @@ def test_a_link_is_the_store_that_it_leads_to(shell, lib, files):
     assert not (files / "link.log").exists()
 
 
+def test_show_asks_for_one_export(shell, lib, files):
+    """However many nodes it shows."""
+    (files / "natix").write_text(f'#!/bin/sh\n[ "$2" != run ] || exec tee -a {files}/asked | {natix.find_natix()} "$@"\nexec {natix.find_natix()} "$@"\n')
+    os.chmod(files / "natix", 0o755)
+    (files / "many.xml").write_text("<a>" + "<b><c>x</c></b>" * 1000 + "</a>")
+    shell.well(lib, "load", "many.xml")
+    shown = shell.well(lib, "show", "many", "/a", env={**os.environ, "NATIX": str(files / "natix")})
+    assert shown == (files / "many.xml").read_text() + "\n"
+    asked = (files / "asked").read_text().split("\n")
+    assert asked.count("export many") == 1 and len(asked) < 10
+
+
+def as_nobody():
+    """For a process that root begins: it has no right that others don't have."""
+    os.setgid(65534)
+    os.setuid(65534)
+
+
+@pytest.mark.skipif(os.geteuid() != 0, reason="whoever isn't root has no other user's rights to try")
+def test_a_right_that_is_missing(shell, lib, files):
+    os.chmod(files, 0o755)
+    assert shell("lib", "ls", preexec_fn=as_nobody)[1:] == ("natix-shell: there is no right to read and write lib\n", 3)
+    assert shell("--create", 256, "new", "ls", preexec_fn=as_nobody)[1:] == ("natix-shell: there is no right to make files in .\n", 3)
+    os.chmod(lib, 0o666)
+    assert shell("lib", "ls", preexec_fn=as_nobody)[1:] == ("natix-shell: there is no right to read and write lib.log\n", 3)
+
+
+WITHOUT_PROC = ["unshare", "--mount", "sh", "-c", 'mount -t tmpfs tmpfs /proc && exec "$@"', "sh"]
+
+
+@pytest.mark.skipif(subprocess.run([*WITHOUT_PROC, "true"], stderr=subprocess.DEVNULL).returncode != 0, reason="a /proc of its own takes root")
+def test_a_system_without_proc(lib, files):
+    done = subprocess.run([*WITHOUT_PROC, sys.executable, TOOLS / "natix-shell", lib, "ls"], stdout=subprocess.PIPE, stderr=subprocess.PIPE)
+    assert done.stderr == b"natix-shell: there is no /proc, without which natix can't tell the files of a store from its own input and output\n"
+    assert done.returncode == 3
+
+
+@pytest.fixture
+def small(files):
+    """A folder on a disk of its own, of 600 KB."""
+    place = files / "small"
+    place.mkdir()
+    if os.geteuid() or subprocess.run(["mount", "-t", "tmpfs", "-o", "size=600k", "tmpfs", place], stderr=subprocess.DEVNULL).returncode:
+        pytest.skip("a disk of its own takes root")
+    yield place
+    subprocess.run(["umount", place], check=True)
+
+
+def test_a_disk_that_is_full(shell, files, small):
+    (files / "large.xml").write_text("<a>" + "<b>words words</b>" * 20000 + "</a>")
+    written, said, status = shell("--create", 256, "small/lib", "load", "shop.xml", "large.xml")
+    assert (written, status) == ("shop: 8 nodes, 1 part\n", 3)
+    first, second = said.splitlines()
+    assert re.match(r"natix-shell: natix ended with 3: the disk that has small/lib has [0-9,]+ bytes left \(disk fault\)", first)
+    assert second == "natix-shell: `load large` wasn't carried out: the store is as it was"
+    assert shell.well("small/lib", "ls") == "shop/ (8 nodes)\n"
+    with open(small / "rest", "wb", buffering=0) as rest, pytest.raises(OSError):
+        while True:
+            rest.write(bytes(4096))
+    assert shell("--create", 256, "small/other", "ls")[1:] == ("natix-shell: the disk that has small/other has 0 bytes left\n", 3)
+
+
 COMPLETED = {"natix-shell l": "lib", "natix-shell lib lo": "load", "natix-shell lib load bad": "bad.xml", "natix-shell lib load --k": "--keep",
+             "natix-shell lib graft --": "--keep", "natix-shell lib tree --json s": "shop", "natix-shell lib compact --": "--k",
              "natix-shell lib save s": "shop", "natix-shell lib rm article ": "article shop", "natix-shell --create 256 lib rest": "restore restore-backup"}
 COMPLETE = """
 source /usr/share/bash-completion/bash_completion && source "$1"/natix-shell.bash && PATH=$1:$PATH
@@ -184,7 +249,53 @@ def test_completion_in_bash(lib, files, line):
     assert done.stdout.decode() == COMPLETED[line] + "\n"
 
 
+def test_completion_knows_the_commands():
+    """Those that a call can be of: others have no end within it, or nothing to be the end of."""
+    listed = re.search(r'compgen -W "(ls [^"]*)"', (TOOLS / "natix-shell.bash").read_text())
+    assert set(listed[1].split()) == set(HELP) - {"cd", "begin", "commit", "rollback", "undo", "quit"}
+
+
+@pytest.mark.parametrize("words", [("put", "shop"), ("load", "-f", "--as", "shop")])
+def test_a_refusal_names_the_document_and_the_file(shell, lib, words):
+    assert shell(lib, *words, "bad.xml")[1:] == ("natix-shell: shop (bad.xml): line 2, column 6: mismatched tag\n", 2)
+    assert shell(lib, *words, "none.xml")[1:] == ("natix-shell: none.xml: No such file or directory\n", 2)
+    assert shell.well(lib, "ls") == "article/ (10 nodes)\nshop/ (8 nodes)\n"
+
+
+def test_a_refusal_of_a_part_names_its_file(shell, lib):
+    for word in ("graft", "replace"):
+        assert shell(lib, word, "shop", "/0/0", "bad.xml")[1:] == ("natix-shell: bad.xml: line 2, column 6: mismatched tag\n", 2)
+
+
+def test_a_document_that_is_no_xml_is_named(shell, lib, files):
+    (files / "odd.pyx").write_bytes(b"(a\n-\1\n)a\n")
+    shell.well(lib, "load", "odd.pyx")
+    for place in ("-", "odd.xml"):
+        assert shell(lib, "save", "odd", place)[1:] == ("natix-shell: odd: line 2: the character U+0001, which XML can't have\n", 2)
+    assert not (files / "odd.xml").exists()
+
+
+def test_parts_keep_their_comments(shell, lib):
+    assert shell.well(lib, "graft", "shop", "/0/0", "<a/><!--c-->") == "ok: 1 node; left out: 1 comment\n"
+    assert shell.well(lib, "replace", "--keep", "shop", "/0/0", "<a><!--c--></a>") == "ok: 2 nodes\n"
+    assert shell.well(lib, "graft", "--keep", "shop", "/0/1", "<!--d-->") == "ok: 1 node\n"
+    assert shell.well(lib, "show", "shop") == '<shop><a><!--c--></a><!--d--><item n="1">tea</item><item n="2">cup</item></shop>\n'
+
+
+def test_a_tree_as_json(shell, lib):
+    rows = json.loads(shell.well(lib, "tree", "--json", "-1", "shop", "/0"))
+    assert [row["path"] for row in rows] == ["/0", "/0/0", "/0/1"]
+    rows = json.loads(shell.well(lib, "tree", "--json", "shop"))
+    assert [row["path"] for row in rows] == ["/", "/0", "/0/0", "/0/0/0", "/0/0/1", "/0/1", "/0/1/0", "/0/1/1"]
+    assert rows[3] == {"path": "/0/0/0", "kind": "attribute", "name": "n", "content": "1", "children": 0}
+    for words in (("find", "shop", "//item"), ("xpath", "shop", "//item")):  # behind the other words, too
+        assert shell.well(lib, *words, "--json") == shell.well(lib, words[0], "--json", *words[1:])
+
+
 def test_messages(shell, lib, files):
+    assert shell(lib, "mv", "shop", "a b")[1] == 'natix-shell: "a b" is no name of a document\n'
+    assert shell(lib, "dump", "none/file")[1] == f"natix-shell: {os.path.realpath(files)}/none/file: No such file or directory\n"
+    assert shell("--create", 257, "new", "ls")[1:] == ("natix-shell: K is from 1 to 256\n" + USAGE, 1)
     assert shell(lib, "find", "shop", "item")[1] == "natix-shell: item: these are no steps: each begins with / or //\n"
     assert shell("--create", 16, lib, "ls")[1:] == (f"natix-shell: {lib}: there is a store of that name, which opens without --create\n", 2)
     assert shell(lib, "get", "shop", "/0/7")[1] == "natix-shell: shop /0/7: refused: no-node: there is no node at that path\n"

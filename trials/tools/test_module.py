@@ -8,12 +8,13 @@ from hypothesis import given, settings, strategies
 
 import natix
 import natix_files
+import natix_lines
 import natix_sources
 import natix_subtrees
 from conftest import new_folder
 
 
-@pytest.mark.parametrize("module", [natix, natix_files, natix_sources, natix_subtrees])
+@pytest.mark.parametrize("module", [natix, natix_files, natix_lines, natix_sources, natix_subtrees])
 def test_what_the_modules_show(module):
     found = doctest.testmod(module)
     assert found.attempted and not found.failed
@@ -32,6 +33,19 @@ def test_loads_say_what_is_left_out(store):
     assert store.load("left", ARTICLE) == natix.Loaded(3, 1, ("2 comments", "the document type"))
     assert store.load("kept", ARTICLE, keep=True) == natix.Loaded(7, 1)
     assert store.export("kept") == "<!DOCTYPE a>\n<!--c-->\n<a>x<!--d-->y</a>\n"
+
+
+def test_what_is_refused_is_named(store, folder):
+    (folder / "bad.xml").write_text("<a>")
+    with pytest.raises(natix.NotXml, match=f"^{folder}/bad.xml: line 1, column 4: "):
+        store.load("bad", folder / "bad.xml")
+    store.load("odd", natix.Pyx(b"(a\n-\1\n)a\n"))
+    with pytest.raises(natix.NotXml, match=r"^odd: line 2: "):
+        store.export("odd")
+    store.load("even", "<a/>")
+    with pytest.raises(FileNotFoundError) as error:
+        store.export("even", folder / "none" / "even.xml")
+    assert error.value.filename == str(folder / "none" / "even.xml")
 
 
 def test_put(store):

@@ -9,6 +9,7 @@ import zipfile
 
 import pytest
 
+import natix
 from conftest import TOOLS
 
 
@@ -26,6 +27,24 @@ def test_an_unproved_program_is_refused(folder, mark):
     assert not [name for name in os.listdir(folder) if name.endswith(".deb")]
 
 
+@pytest.mark.parametrize("words, mark, said", [([], "stamp", "yes, "), (["--unproved"], "other", "no"), (["--unproved"], None, "no")])
+def test_what_is_said_of_the_proof(folder, words, mark, said):
+    """In BUILD, which is shown here in place of a build."""
+    program = folder / "natix"
+    shutil.copy("/bin/true", program)
+    if mark:
+        of = program.read_bytes() if mark == "stamp" else b"another"
+        (folder / "natix.stamp").write_text("0" * 64 + hashlib.sha256(of).hexdigest())
+    (folder / "bin").mkdir()
+    (folder / "bin" / "dpkg-buildpackage").write_text("#!/bin/sh\ncat BUILD\nexit 1\n")
+    os.chmod(folder / "bin" / "dpkg-buildpackage", 0o755)
+    given = {**os.environ, "NATIX": str(program), "PATH": f"{folder}/bin:{os.environ['PATH']}"}
+    done = subprocess.run([TOOLS / "package", *words, folder], env=given, stdout=subprocess.PIPE, stderr=subprocess.PIPE)
+    proved, = [line for line in done.stderr.decode().splitlines() if line.startswith("proved")]
+    assert proved.startswith(f"proved   {said}") and (said != "no" or proved == "proved   no")
+    assert hashlib.sha256(program.read_bytes()).hexdigest() in done.stderr.decode()
+
+
 def test_the_wheel(folder):
     pytest.importorskip("build")
     shutil.copytree(TOOLS, folder / "tools", ignore=shutil.ignore_patterns("__pycache__"))
@@ -33,9 +52,24 @@ def test_the_wheel(folder):
     assert done.returncode == 0, done.stdout.decode()
     wheel, = folder.glob("*.whl")
     names = zipfile.ZipFile(wheel).namelist()
-    modules = {path.name for path in TOOLS.glob("*.py")} | {f"natix_shell/{path.name}" for path in (TOOLS / "natix_shell").glob("*.py")}
+    modules = {str(path.relative_to(TOOLS)) for place in ("*.py", "natix_shell/*.py", "natix_server/*.py") for path in TOOLS.glob(place)}
     assert {name for name in names if name.endswith(".py")} == modules
-    zipfile.ZipFile(wheel).extractall(folder / "there")
-    done = subprocess.run([sys.executable, "-c", "import natix; print(natix.__file__, natix.pyx('<a/>'))"], cwd=folder, stdout=subprocess.PIPE,
-                          env={**os.environ, "PYTHONPATH": str(folder / "there"), "XMLPYX": str(TOOLS / "xmlpyx")})
-    assert done.stdout.decode() == f"{folder / 'there' / 'natix.py'} b'(a\\n)a\\n'\n"
+    check_wheel(wheel, folder / "there")
+
+
+def check_wheel(wheel, place):
+    """Installs it in a folder, and runs what is in it with that folder alone on the PATH, beside the program natix."""
+    installed = [sys.executable, "-m", "pip", "install", "--quiet", "--no-deps", "--no-index", "--target", place, wheel]
+    subprocess.run(installed, check=True, stdout=subprocess.DEVNULL, stderr=subprocess.DEVNULL)
+    given = {**os.environ, "NATIX": natix.find_natix(), "PYTHONPATH": str(place), "PATH": f"{place}/bin:{os.environ['PATH']}"}
+    given.pop("XMLPYX", None)
+
+    def said(*words, source=b""):
+        return subprocess.run(words, input=source, cwd=place, stdout=subprocess.PIPE, stderr=subprocess.STDOUT, env=given).stdout.decode()
+    assert said(sys.executable, "-c", "import natix; print(natix.__file__, natix.pyx('<a/>'))") == f"{place / 'natix.py'} b'(a\\n)a\\n'\n"
+    assert said("natix-shell", "--create", "256", "lib", "load", "--as", "a", "-", source=b"<a>x</a>") == "a: 3 nodes, 1 part\n"
+    assert said("natix-shell", "lib", "save", "a", "-") == "<a>x</a>\n"
+    assert said("natix-view", "lib", "a").count("<title>a - natix</title>") == 1
+    assert said("natix-follow", "--help").startswith("Keep")
+    assert said("read-store", "--documents", "lib").startswith("doc a 3\n")
+    assert said("xpath-steps", "to-steps", "//a/@b") == "//a/@b\n"
