@@ -9,3 +9,4 @@ mod AgreeLemmas
 pub mod CountLemmas
 pub mod RequestLemmas
 mod RequestAgreeLemmas
+mod PlainAnswerLemmas

@@ -49,11 +49,11 @@ part_sound state command r next comes sound part =
     elim (part_cases state command r next part) [ inl step ↦ step_sound state command r next comes sound step.1 | inr refuses ↦ subst IsSound (sym refuses.1.1) sound ]
 
 -- one that isn't refused is none that is refused for a limit
-kept_unlimited : (r : Reply) → is_refused r ≡ false → is_limit r ≡ false
+pub kept_unlimited : (r : Reply) → is_refused r ≡ false → is_limit r ≡ false
 kept_unlimited (reply.Refused error) kept = absurd (let no : true ≡ false = kept in cc)
 kept_unlimited r kept = refl
 
-part_trees : (state : State) (command : Command) (r : Reply) (next : State) → AreFeasible state → is_refused r ≡ false → PartStep state command r next → trees next ≡ documents_after (trees state) command
+pub part_trees : (state : State) (command : Command) (r : Reply) (next : State) → AreFeasible state → is_refused r ≡ false → PartStep state command r next → trees next ≡ documents_after (trees state) command
 part_trees state command r next feasible kept part = elim (part_cases state command r next part) [
   | inl step ↦ of_plain (is_limit r) (kept_unlimited r kept) (step_plain state command r next feasible step.1)
   | inr refuses ↦ let no : true ≡ false = sym (ap is_refused refuses.1.0) ∙ kept in absurd (cc)

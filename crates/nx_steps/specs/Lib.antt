@@ -4,5 +4,6 @@ pub mod Step
 pub mod Requests
 pub mod Sound
 pub mod Plain
+pub mod PlainAnswers
 pub mod Laws
 pub mod RequestLaws

@@ -16,6 +16,7 @@ use Rattle.nx_steps.specs.Step.{trees}
 use Rattle.nx_steps.specs.Requests.{GoThrough, RequestStep, RequestsRunTo, may_change_request}
 use Rattle.nx_steps.specs.Sound.{AreFeasible, IsSound}
 use Rattle.nx_steps.specs.Plain.{is_limit}
+use Rattle.nx_steps.specs.PlainAnswers.{IsPlainRequest, IsAnsweredPlainly, is_limit_answer}
 use Rattle.nx_steps.specs.Laws.{ArePartitioned}
 
 -- Each step of a request that a script can give leaves a sound state sound.
@@ -73,3 +74,10 @@ abbrev pub RequestsAgree : Type 0
 RequestsAgree =
     (state : State) (request : Request) (answer other_answer : Answer) (next other : State) → AreFeasible state → RequestStep state request answer next
     → RequestStep state request other_answer other → FoundRoom answer → FoundRoom other_answer → AreAnsweredAlike answer other_answer next other
+
+-- A request that trees in memory carry out, and that isn't refused for weight or for want of room, is answered as by these: a transaction by the same replies, or
+-- refused at the same number and by the same word.
+abbrev pub RequestsReplyPlainly : Type 0
+RequestsReplyPlainly =
+    (state : State) (request : Request) (answer : Answer) (next : State) → AreFeasible state → IsPlainRequest request
+    → is_limit_answer answer ≡ false → RequestStep state request answer next → IsAnsweredPlainly (trees state) request answer

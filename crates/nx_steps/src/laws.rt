@@ -1,6 +1,6 @@
 //! What holds of steps, and of runs of them.
 ghost use Rattle.nx_steps.specs.Laws.{EffectsLeaveSums, StateStays, RoomIsCounted, RunsEditTrees, RunsKeepSound, RunsReplyPlainly, StepsAgree, StepsArePlain, StepsKeepSound, StepsStayFeasible, StepsStayPartitioned, StoredIsSound};
-ghost use Rattle.nx_steps.specs.RequestLaws.{RequestsKeepSound, RequestRunsKeepSound, RequestsStayFeasible, RequestsStayPartitioned, RequestsStay, TransactionsEditTrees, RequestRunsEditTrees, RequestsAgree};
+ghost use Rattle.nx_steps.specs.RequestLaws.{RequestsKeepSound, RequestRunsKeepSound, RequestsStayFeasible, RequestsStayPartitioned, RequestsStay, TransactionsEditTrees, RequestRunsEditTrees, RequestsAgree, RequestsReplyPlainly};
 
 /// Each state that pages stand for is sound: its documents are such, cut into parts that aren't too heavy,
 /// and its rules are those of a matrix.
@@ -107,4 +107,11 @@ pub fn request_runs_edit_trees()
 /// nothing was refused for want of room.
 pub fn requests_agree()
     ensures { RequestsAgree }
+{}
+
+/// A request that trees in memory carry out is answered as by these, but for the numbers of intervals, where it
+/// isn't refused for weight or for want of room: a transaction by the same replies, or refused at the same
+/// number and by the same word.
+pub fn requests_reply_plainly()
+    ensures { RequestsReplyPlainly }
 {}
