@@ -12,7 +12,7 @@ use Rattle.nx_host.proofs.DiskLemmas.{keeps_self, settled_still}
 use Rattle.nx_host.proofs.OutputLemmas.{appends_then, takes_nothing}
 use Rattle.nx_holdings.specs.Holdings.{HoldsBy}
 use Rattle.nx_holdings.proofs.OneLemmas.{hold_one}
-use Rattle.nx_records.specs.Words.{replay, Held, Holds}
+use Rattle.nx_records.specs.Words.{replay, Held, Holds, IsRenewed}
 use Rattle.nx_records.specs.Records.{HasHeader}
 use Rattle.nx_script.specs.declared.command.Command.TheVariants.{Checkpoint}
 use Rattle.nx_script.specs.declared.request.Request.{Request}
@@ -46,6 +46,8 @@ use Rattle.nx_front.proofs.ClockLemmas.{HasClock, at_end}
 use Rattle.nx_front.proofs.MomentLemmas.{every_moment, every_between, reached_none, requests_more}
 use Rattle.nx_front.proofs.ServeLemmas.{served_none, served_filled, given_block, run_block, between_served, between_block, all_given, stops_giving, block_stopped}
 use Rattle.nx_front.proofs.UntakenLemmas.{of_taken, first_of_taken, none_of_taken, none_came, not_none, none_left, left_then, left_still, left_taken, left_given}
+use Rattle.nx_front.specs.Logs.{LeavesLogs}
+use Rattle.nx_front.proofs.LogLemmas.{rests, still_rests, beside_rests, logs_rest, logs_more, logs_stopped, logs_ended, leaves_behind}
 use Rattle.nx_front.proofs.LookupLemmas.{lookups_but_last, read_more}
 use Rattle.nx_front.proofs.ServingLaws.{serving_together}
 
@@ -267,7 +269,7 @@ module _ {D : Type 0} {d : Ghosts D} where
   conversing_none none given = record {
     given = given;
     goes = none_goes;
-    served = λ state at told. ([], refl, served_none at none);
+    served = λ state at told. ([], refl, served_none at none, rests);
     emptied = λ state at told ends. absurd (no_last ends.0 (Single Checkpoint) ends.1);
     unbegun = λ is. (none, none_left);
     looked = λ all state at told. looked_none at;
@@ -288,16 +290,17 @@ module _ {D : Type 0} {d : Ghosts D} where
     given = with_request request next same talk given takes;
     goes = goes_then talk.goes (takes_goes takes);
     served = λ state at told.
-        let (turns, are, served) = talk.served state at (takes.told told) in
-        let (turn, is, more, log) = answers first state turns served told in (
+        let (turns, are, served, logs) = talk.served state at (takes.told told) in
+        let (turn, is, more, left) = answers first state turns served told in (
           turns ++ turn ∷ [],
           requests_more turns turn ∙ ap (λ (rs : List Request). rs ++ turn.request ∷ []) are ∙ ap (λ (c : Request). requests ++ c ∷ []) is,
           more,
+          logs_more state turns turn _ logs left,
         );
     emptied = λ state at told ends.
-        let (turns, are, served) = talk.served state at (takes.told told) in
-        let (turn, is, more, log) = answers first state turns served told in
-        log (last_one ends.0 requests (Single Checkpoint) request ends.1);
+        let (turns, are, served, logs) = talk.served state at (takes.told told) in
+        let (turn, is, more, left) = answers first state turns served told in
+        (left.log).emptied (is ∙ last_one ends.0 requests (Single Checkpoint) request ends.1);
     unbegun = λ is. absurd (not_none requests request is);
     looked = λ all state at told.
         let (some, one) = lookups_but_last requests request all in
@@ -323,8 +326,8 @@ module _ {D : Type 0} {d : Ghosts D} where
     given = subst (λ (i : Option (List ℕ)). HasGivenRequestsIn script taken requests (d.beside first).input i) (sym alone.input_stays) talk.given;
     goes = goes_then talk.goes (leaves_goes alone.areas);
     served = λ state at told.
-        let (turns, are, served) = talk.served state at ((leaves_goes alone.areas).told told) in
-        (turns, are, given_block served none gave alone told);
+        let (turns, are, served, logs) = talk.served state at ((leaves_goes alone.areas).told told) in
+        (turns, are, given_block served none gave alone told, logs_rest state turns _ logs (beside_rests alone.areas told));
     emptied = λ state at told ends i left. talk.emptied state at ((leaves_goes alone.areas).told told) ends i ((alone.areas.images_stay i).0 left);
     unbegun = λ is. let (empty, stays) = talk.unbegun is in (none, left_then stays (left_given (Ok tt) empty gave alone));
     looked = λ all state at told. looked_beside alone.areas told (talk.looked all state at ((leaves_goes alone.areas).told told));
@@ -338,8 +341,8 @@ module _ {D : Type 0} {d : Ghosts D} where
     given = given;
     goes = goes_then talk.goes (leaves_goes takes.areas);
     served = λ state at told.
-        let (turns, are, served) = talk.served state at ((leaves_goes takes.areas).told told) in
-        (turns, are, served_filled served takes told);
+        let (turns, are, served, logs) = talk.served state at ((leaves_goes takes.areas).told told) in
+        (turns, are, served_filled served takes told, logs_rest state turns _ logs (beside_rests takes.areas told));
     emptied = λ state at told ends i left. talk.emptied state at ((leaves_goes takes.areas).told told) ends i ((takes.areas.images_stay i).0 left);
     unbegun = λ is. let (empty, stays) = talk.unbegun is in (empty, left_then stays (left_taken takes));
     looked = λ all state at told. looked_beside takes.areas told (talk.looked all state at ((leaves_goes takes.areas).told told));
@@ -365,8 +368,8 @@ module _ {D : Type 0} {d : Ghosts D} where
       IsAt d begun first state → HasRun d state turns first now → requests_of turns ++ rest ≡ requests → HasGivenRequestsIn script taken requests (d.beside first).input (d.beside now).input →
       EndsServing turns taken status (d.beside first) (d.beside now) →
       (EndsBetween status → LeavesMoments d now (ShowsBetween (d.beside first).output state turns)) →
-      (status ≡ Done → ((i : Image) → d.may_leave now i → Recovers i (Some (state_after state turns))) × (EndsWithCheckpoint (requests_of turns) → HasEmptyLog d now)) → ServesFrom d state status first now
-  serves_from {state = state} {turns = turns} {first = first} {now = now} {script = script} {taken = taken} {requests = requests} rest status clock at run are given ends between last =
+      (status ≡ Done → ((i : Image) → d.may_leave now i → Recovers i (Some (state_after state turns))) × (EndsWithCheckpoint (requests_of turns) → HasEmptyLog d now)) → LeavesLogs d state turns status first now → ServesFrom d state status first now
+  serves_from {state = state} {turns = turns} {first = first} {now = now} {script = script} {taken = taken} {requests = requests} rest status clock at run are given ends between last logs =
       let time = shows_moments d first now state turns run.time in
       record {
         turns = turns;
@@ -381,6 +384,7 @@ module _ {D : Type 0} {d : Ghosts D} where
         between = between;
         last = λ is. (last is).0;
         emptied = λ is. (last is).1;
+        logs = logs;
       }
 
   pub stopped_ends : {first now : D} (status : Status) (next : D) → IsLater d first now → IsUnanswered d status now next → IsEnded d status first next
@@ -403,10 +407,11 @@ module _ {D : Type 0} {d : Ghosts D} where
       let came = with_request request next same talk given takes in
       record {
         from = λ state at told.
-            let (turns, are, served) = talk.served state at (takes.told told) in
+            let (turns, are, served, logs) = talk.served state at (takes.told told) in
             let (short, begun_so) = begins first state turns served told in
             let (ends, not_done) = stopped_serving status begun_so.turns _ (d.beside first) (d.beside next) short in
-            serves_from begun_so.rest status clock at begun_so.run (begun_so.parts ∙ ap (λ (rs : List Request). rs ++ request ∷ []) are) came ends begun_so.between (λ is. absurd (not_done is));
+            serves_from begun_so.rest status clock at begun_so.run (begun_so.parts ∙ ap (λ (rs : List Request). rs ++ request ∷ []) are) came ends begun_so.between (λ is. absurd (not_done is))
+            (logs_stopped state turns begun_so.turns _ status short logs begun_so.goes_on);
         cause = stopped_ends status next talk.goes stopped;
         bounded = few came;
         goes = goes_then talk.goes (takes_goes takes);
@@ -427,9 +432,10 @@ module _ {D : Type 0} {d : Ghosts D} where
       in
       record {
         from = λ state at told.
-            let (turns, are, served) = talk.served state at ((leaves_goes alone.areas).told told) in
+            let (turns, are, served, logs) = talk.served state at ((leaves_goes alone.areas).told told) in
             let (ends, not_done) = stopped_serving status turns taken (d.beside first) (d.beside next) (stops_giving stop) in
-            serves_from [] status clock at (run_block served alone) (append-nil (requests_of turns) ∙ are) came ends (λ between. between_block clock served alone) (λ is. absurd (not_done is));
+            serves_from [] status clock at (run_block served alone) (append-nil (requests_of turns) ∙ are) came ends (λ between. between_block clock served alone) (λ is. absurd (not_done is))
+            (logs_stopped state turns turns _ status (stops_giving stop) logs (inl refl));
         cause = stopped_ends status next talk.goes (block_stopped d now next block stop gave);
         bounded = few came;
         goes = goes_then talk.goes (leaves_goes alone.areas);
@@ -442,8 +448,9 @@ module _ {D : Type 0} {d : Ghosts D} where
       IsConversing d begun taken requests script store block first now → Converses d begun NoMemory first now
   converses_starved clock talk = record {
     from = λ state at told.
-        let (turns, are, served) = talk.served state at told in
-        serves_from [] NoMemory clock at served.run (append-nil (requests_of turns) ∙ are) talk.given tt (λ between. between_served clock served) (λ is. absurd (cc is));
+        let (turns, are, served, logs) = talk.served state at told in
+        serves_from [] NoMemory clock at served.run (append-nil (requests_of turns) ∙ are) talk.given tt (λ between. between_served clock served) (λ is. absurd (cc is))
+        (logs_ended state turns NoMemory logs);
     cause = tt;
     bounded = few talk.given;
     goes = talk.goes;
@@ -459,11 +466,12 @@ module _ {D : Type 0} {d : Ghosts D} where
       let whole : EndsWhole taken (d.beside first).input (d.beside now).input = record { takes = talk.given.takes; end = end; few = short } in
       record {
         from = λ state at told.
-            let (turns, are, served) = talk.served state at told in
+            let (turns, are, served, logs) = talk.served state at told in
             serves_from [] Done clock at served.run (append-nil (requests_of turns) ∙ are) talk.given
             (whole, subst (λ (rs : List Request). AreRequests taken rs) (sym are) all, all_given served none)
             (λ between. between_served clock served)
-            (λ is. (λ i left. at_image served.at left, λ ends. talk.emptied state at told (subst EndsWithCheckpoint are ends)));
+            (λ is. (λ i left. at_image served.at left, λ ends. talk.emptied state at told (subst EndsWithCheckpoint are ends)))
+            (logs_ended state turns Done logs);
         cause = (taken, whole);
         bounded = few talk.given;
         goes = talk.goes;
@@ -478,9 +486,10 @@ module _ {D : Type 0} {d : Ghosts D} where
       Converses d begun (status_of_script error) first next
   converses_unfilled {first = first} {now = now} {next = next} scripts.Read clock talk none earlier rose (more, given, short, stops) = record {
     from = λ state at told.
-        let (turns, are, served) = talk.served state at told in
+        let (turns, are, served, logs) = talk.served state at told in
         serves_from [] ReadFault clock at served.run (append-nil (requests_of turns) ∙ are) given
-        (short, subst (λ (rs : List Request). AreWholeRequests more rs) (sym are) stops.whole, all_given served none) (λ between. between_served clock served) (λ is. absurd (cc is));
+        (short, subst (λ (rs : List Request). AreWholeRequests more rs) (sym are) stops.whole, all_given served none) (λ between. between_served clock served) (λ is. absurd (cc is))
+        (logs_ended state turns ReadFault logs);
     cause = (rose_since (d.beside first).in_faults (d.beside now).in_faults (d.beside next).in_faults earlier (rose refl), more, short, stops.takes);
     bounded = few given;
     goes = talk.goes;
@@ -489,9 +498,10 @@ module _ {D : Type 0} {d : Ghosts D} where
   }
   converses_unfilled scripts.TooMuch clock talk none earlier rose (more, given, long, stops) = record {
     from = λ state at told.
-        let (turns, are, served) = talk.served state at told in
+        let (turns, are, served, logs) = talk.served state at told in
         serves_from [] TooMuch clock at served.run (append-nil (requests_of turns) ∙ are) given
-        (long, subst (λ (rs : List Request). AreWholeRequests more rs) (sym are) stops.whole, all_given served none) (λ between. between_served clock served) (λ is. absurd (cc is));
+        (long, subst (λ (rs : List Request). AreWholeRequests more rs) (sym are) stops.whole, all_given served none) (λ between. between_served clock served) (λ is. absurd (cc is))
+        (logs_ended state turns TooMuch logs);
     cause = (more, long, stops.takes);
     bounded = few given;
     goes = talk.goes;
@@ -519,6 +529,7 @@ module _ {D : Type 0} {d : Ghosts D} where
             ([], kept_appends (d.beside a).output (d.beside b).output stays.output_stays, every_between state [] [] i (refl, begins i ((stays.images_stay i).0 left)));
         last = λ is. absurd (not_done is);
         emptied = λ is. absurd (not_done is);
+        logs = logs_stopped state [] [] _ status short rests (inl refl);
       }
 
   -- it doesn't begin
@@ -574,6 +585,7 @@ module _ {D : Type 0} {d : Ghosts D} where
         between = λ ends i may. let (out, gave, moment) = from.between ends i may in (out, appends_after out (d.beside a).output (d.beside b).output (d.beside c).output output gave, moment);
         last = from.last;
         emptied = from.emptied;
+        logs = leaves_behind status (still_rests still) from.logs;
       }
 
   opened_cause : {a b c : D} {begun : Store} (status : Status) → IsStill d a b → ((was : Image) (state : State) → IsSettled d a was → Recovers was (Some state) → IsAt d begun b state) →
@@ -616,14 +628,15 @@ module _ {D : Type 0} {d : Ghosts D} where
         (own, subst (λ (h : Held). ReadForAll h state from.requests own) same are, omega (arith, first, few));
   }
 
-  pub serves_opened : {a b c : D} {begun : Store} (status : Status) → IsStill d a b → ((was : Image) (state : State) → IsSettled d a was → Recovers was (Some state) → IsAt d begun b state) →
+  pub serves_opened : {a b c : D} {begun : Store} (status : Status) → IsStill d a b → IsRenewed d a b → ((was : Image) (state : State) → IsSettled d a was → Recovers was (Some state) → IsAt d begun b state) →
       ((was : Image) → IsSettled d a was → HasHeader was) → ((was : Image) → IsSettled d a was → ReadsOpening was (d.reads a) (d.reads b)) → Converses d begun status b c → Serves d status a c
-  serves_opened {a = a} {b = b} {c = c} status still opens marked opening talk =
+  serves_opened {a = a} {b = b} {c = c} status still renewed opens marked opening talk =
       let goes = goes_then (still_goes still) talk.goes in
       record {
         from = λ was state settled told recovers. opened_from status still settled recovers (talk.from state (opens was state settled recovers) told);
         cause = opened_cause status still opens talk talk.cause;
         no_header = λ was settled none. absurd (none (marked was settled));
+        opened = inr (record { opened = b; still = still; renewed = renewed; counts = talk.goes.counts; faults_later = talk.goes.faults_later });
         bounded = record {
           taken = talk.bounded.taken;
           few = talk.bounded.few;
@@ -681,6 +694,7 @@ module _ {D : Type 0} (d : Ghosts D) (a b : D) where
         (left_still still) still.beside_stays.input (unopened_short was state e why settled recovers);
     cause = unopened_cause e why;
     no_header = λ was settled none. (unopened_header was e why settled none, still);
+    opened = inl still;
     bounded = few_nothing (d.beside a).input (d.beside b).input still.beside_stays.input;
     counts = counts_still still;
     faults_later = still.faults_later;

@@ -59,6 +59,9 @@ use Rattle.nx_front.proofs.InitLemmas.{line_told}
 use Rattle.nx_front.proofs.ServingLaws.{serving_together}
 use Rattle.nx_front.proofs.ConversationLemmas.{unopened_header}
 use Rattle.nx_front.proofs.ClockLemmas.{HasClock, at_end}
+use Rattle.nx_records.specs.Words.{IsRenewed}
+use Rattle.nx_front.specs.Logs.{EndsAnswered, IsOpenedOrStill}
+use Rattle.nx_front.proofs.LogLemmas.{rests, still_rests, beside_rests, leaves_turn, logs_rest, logs_more, logs_behind, follow_but, but_behind, logs_ended}
 use Rattle.nx_front.proofs.MomentLemmas.{run_more, after_more, requests_more}
 
 -- Images of the state after some turns:
@@ -189,12 +192,12 @@ module _ {D : Type 0} {d : Ghosts D} where
   -- Turns that are had:
 
   turned_none : {a : D} {state : State} {store : Store} → IsAt d store a state → HasTurned d state [] store a a
-  turned_none at = record { run = tt; at = at; time = none_elapsed }
+  turned_none at = record { run = tt; at = at; time = none_elapsed; logs = rests }
 
-  turned_more : {first now next : D} {state : State} {turns : List Turn} {store store' : Store} (command : Command) (r : Reply) → WritesAlone d first now (λ _. Unit {0}) →
+  turned_more : {first now next : D} {state : State} {turns : List Turn} {store store' : Store} (command : Command) (r : Reply) → WritesAlone d first now (λ _. Unit {0}) → d.moment now ≤ d.moment next →
       HasTurned d state turns store first now → IsApplied d (Ok r) (state_after state turns) command store' now next →
       (turn : Turn) × (turn.request ≡ Single command) × (turn.reply ≡ One r) × HasTurned d state (turns ++ turn ∷ []) store' first next
-  turned_more {next = next} {state = state} {turns = turns} {store' = store'} command r areas turned (after, step, at, shows, log) =
+  turned_more {next = next} {state = state} {turns = turns} {store' = store'} command r areas later turned (after, step, at, shows, log) =
       let turn : Turn = record { request = Single command; reply = One r; next = after } in (
         turn,
         refl,
@@ -203,6 +206,7 @@ module _ {D : Type 0} {d : Ghosts D} where
           run = run_more state turns turn turned.run step;
           at = subst (λ (t : State). IsAt d store' next t) (sym (after_more state turns turn)) at;
           time = shows_then d areas.beside_stays.output (some_longer state turns turn) (some_either state turns turn) turned.time shows;
+          logs = logs_more state turns turn _ turned.logs (leaves_turn turn at later log);
         },
       )
 
@@ -219,7 +223,7 @@ module _ {D : Type 0} {d : Ghosts D} where
     areas = written_alone_then carried.areas writes (λ told i has. tt);
     had = λ state at told.
         let (turns, are, answered, turned) = carried.had state at (writes.told told) in
-        let (turn, is, its, more) = turned_more command r carried.areas turned (applies (state_after state turns) turned.at told) in (
+        let (turn, is, its, more) = turned_more command r carried.areas (writes.time).later turned (applies (state_after state turns) turned.at told) in (
           turns ++ turn ∷ [],
           requests_more turns turn ∙ ap (λ (rs : List Request). rs ++ turn.request ∷ []) are ∙ ap (λ (q : Request). came ++ q ∷ []) is,
           replies_more turns turn ∙ ap (λ (rs : List Answer). rs ++ turn.reply ∷ []) answered ∙ ap (λ (q : Answer). replies ++ q ∷ []) its,
@@ -230,7 +234,7 @@ module _ {D : Type 0} {d : Ghosts D} where
   -- memory runs out between two commands
   carrying_starved : {begun store : Store} {came all : List Request} {replies : List Answer} {first now : D} (rest : List Request) → IsCarrying d begun came replies store first now →
       came ++ rest ≡ all → StopsCarrying d all engine.Memory begun first now
-  carrying_starved rest carried parts state at told =
+  carrying_starved {now = now} rest carried parts state at told =
       let (turns, are, answered, turned) = carried.had state at told in
       record {
         short = tt;
@@ -239,6 +243,8 @@ module _ {D : Type 0} {d : Ghosts D} where
         rest = rest;
         parts = ap (λ (rs : List Request). rs ++ rest) are ∙ parts;
         time = turned.time;
+        between = now;
+        logs = follow_but state turns turns turned.logs (inl refl);
       }
 
   -- a command isn't carried out, or begun alone
@@ -253,6 +259,8 @@ module _ {D : Type 0} {d : Ghosts D} where
       rest = Single command ∷ rest;
       parts = ap (λ (rs : List Request). rs ++ Single command ∷ rest) are ∙ parts;
       time = shows_then d carried.areas.beside_stays.output (λ i is. is) (some_all state turns) turned.time shows;
+      between = now;
+      logs = follow_but state turns turns turned.logs (inl refl);
     }
 
     one_begun : (error : EngineError) (state : State) (turns : List Turn) (turn : Turn) → CutsShort error → requests_of turns ≡ came → HasTurned d state turns store first now →
@@ -267,11 +275,13 @@ module _ {D : Type 0} {d : Ghosts D} where
           ap (λ (rs : List Request). rs ++ rest) (requests_more turns turn) ∙ append_assoc (requests_of turns) (turn.request ∷ []) rest ∙ ap (λ (q : Request). requests_of turns ++ q ∷ rest) is
           ∙ ap (λ (rs : List Request). rs ++ Single command ∷ rest) are ∙ parts;
       time = shows_then d carried.areas.beside_stays.output (some_longer state turns turn) (some_either state turns turn) turned.time shows;
+      between = now;
+      logs = follow_but state turns (turns ++ turn ∷ []) turned.logs (inr (turn, refl));
     }
 
     stops_by : (error : EngineError) (state : State) (turns : List Turn) → requests_of turns ≡ came → HasTurned d state turns store first now →
         IsApplied d (Err error) (state_after state turns) command store' now next → CarriesSome d all error state first next
-    stops_by engine.Memory state turns are turned (at, shows) = none_begun engine.Memory state turns tt are turned shows
+    stops_by engine.Memory state turns are turned (at, shows, spares) = none_begun engine.Memory state turns tt are turned shows
     stops_by engine.Disk state turns are turned (inl shows) = none_begun engine.Disk state turns tt are turned shows
     stops_by engine.Disk state turns are turned (inr (begins, shows)) =
         one_begun engine.Disk state turns (record { request = Single command; reply = begins.reply; next = begins.next }) tt are turned refl begins.step shows
@@ -400,6 +410,16 @@ found_ends status a b c kept (inl (is, appends)) =
     subst (λ (s : Status). EndsFinding s a c) (sym is) (appends_then [] exists_line a.output b.output c.output (kept_appends a.output b.output kept) appends)
 found_ends status a b c kept (inr (is, fails)) = subst (λ (s : Status). EndsFinding s a c) (sym is) tt
 
+-- it doesn't end behind an answer then
+cut_unanswered : (e : EngineError) → CutsShort e → EndsAnswered (status_of_engine e) → ⊥
+cut_unanswered engine.Disk short answered = answered
+cut_unanswered engine.Memory short answered = answered
+cut_unanswered engine.Exists short answered = short
+cut_unanswered engine.NotAStore short answered = short
+cut_unanswered engine.Write short answered = short
+cut_unanswered (engine.Damaged page) short answered = short
+cut_unanswered engine.Ended short answered = short
+
 cut_ends : (all : List Request) (state : State) (turns : List Turn) (e : EngineError) (a b : Beside) → CutsShort e →
     EndsGenerating all state turns (status_of_engine e) a b × (status_of_engine e ≡ Done → ⊥)
 cut_ends all state turns engine.Disk a b short = (tt, λ is. cc is)
@@ -478,6 +498,7 @@ module _ {D : Type 0} {d : Ghosts D} where
         left = left_shown clock (of_settled settled recovers) time;
         ends = ends;
         last = λ is. absurd (not_done is);
+        logs = logs_ended state [] status (still_rests still);
       }
 
   -- ... and where a document is there, nothing is said
@@ -535,13 +556,18 @@ module _ {D : Type 0} {d : Ghosts D} where
         left = left_shown clock (of_settled settled recovers) time;
         ends = ends;
         last = λ is. absurd (not_done is);
+        logs = record {
+          between = stopped.between;
+          answered = but_behind (still_rests still) stopped.logs;
+          whole = λ answered. absurd (cut_unanswered e stopped.short answered);
+        };
       }
 
   -- all were, and the summary is given
   generates_said : {all : List Request} {lines : List ℕ} {state : State} {was : Image} {store : Store} {a b c e : D} (status : Status) → HasClock d → IsStill d a b → IsSettled d a was →
       Recovers was (Some state) → HasCarried d all lines state store b c → Keeps (d.beside b).output (d.beside c).output → SaysLine lines Done status (d.beside c) (d.beside e) →
-      GivesAlone d lines c e → GeneratesFrom d all state status a e
-  generates_said {all = all} {lines = lines} {state = state} {a = a} {b = b} {c = c} {e = e} status clock still settled recovers carried kept says gives =
+      GivesAlone d lines c e → IsSome (d.contents e) → GeneratesFrom d all state status a e
+  generates_said {all = all} {lines = lines} {state = state} {a = a} {b = b} {c = c} {e = e} status clock still settled recovers carried kept says gives told =
       let turns = carried.turns in
       let turned = carried.turned in
       let here = keeps_then (d.beside a).output (d.beside b).output (d.beside c).output still.beside_stays.output kept in
@@ -573,6 +599,7 @@ module _ {D : Type 0} {d : Ghosts D} where
           | inr (is, fails) ↦ subst (λ (s : Status). EndsGenerating all state turns s (d.beside a) (d.beside e)) (sym is) carried.all_are
         ];
         last = λ is i may. at_image turned.at ((gives.areas.images_stay i).0 may);
+        logs = logs_ended state turns status (logs_behind state turns _ (still_rests still) (logs_rest state turns _ turned.logs (beside_rests gives.areas told)));
       }
 
 -- where none is listed none is there, and where one is listed one is
@@ -607,11 +634,12 @@ module _ {D : Type 0} {d : Ghosts D} where
     from = λ was state settled told recovers. unopened_in (generated_requests seed n) clock still settled recovers e why;
     cause = unopened_causes d a b e why;
     no_header = λ was settled none. (unopened_header d a b was e why settled none, still);
+    opened = inl still;
     takes = still_takes still;
   }
 
   -- Over a store that was opened:
-  module _ (seed n : ℕ) {a b : D} {begun : Store} (clock : HasClock d) (still : IsStill d a b)
+  module _ (seed n : ℕ) {a b : D} {begun : Store} (clock : HasClock d) (still : IsStill d a b) (renewed : IsRenewed d a b)
       (opens : (was : Image) (state : State) → IsSettled d a was → Recovers was (Some state) → IsAt d begun b state) (marked : (was : Image) → IsSettled d a was → HasHeader was) where
     -- its documents aren't listed for want of memory
     pub generates_starved : Generates d seed n NoMemory a b
@@ -619,8 +647,22 @@ module _ {D : Type 0} {d : Ghosts D} where
       from = λ was state settled told recovers. starved_in (generated_requests seed n) clock still settled recovers;
       cause = tt;
       no_header = λ was settled none. absurd (none (marked was settled));
+      opened = inl still;
       takes = still_takes still;
     }
+
+    -- it was opened
+    opened_by : {c : D} → TakesNone d b c → IsOpenedOrStill d a c
+    opened_by {c = c} takes = inr (record {
+      opened = b;
+      still = still;
+      renewed = renewed;
+      counts = record {
+        read = let same : (d.beside c).in_faults ≡ (d.beside b).in_faults = takes.in_faults_stay in omega (arith, same);
+        written = takes.out_faults_later;
+      };
+      faults_later = takes.faults_later;
+    })
 
     listed_in : (was : Image) (state : State) → IsSettled d a was → Recovers was (Some state) →
         listed_nodes gen_name (map line_of (entries (begun.catalog).documents)) ≡ option_map document_size (generated state)
@@ -635,6 +677,7 @@ module _ {D : Type 0} {d : Ghosts D} where
           from = λ was state settled told recovers. some_in (GeneratesFrom d (generated_requests seed n) state status a c) (generated state) nodes (listed ∙ listed_in was state settled recovers) (finds_said status still says gives);
           cause = said_cause d a b c exists_line Refused status tt still_later says;
           no_header = λ was settled none. absurd (none (marked was settled));
+          opened = opened_by (gives_takes gives);
           takes = takes_then (still_takes still) (gives_takes gives);
         }
 
@@ -660,6 +703,7 @@ module _ {D : Type 0} {d : Ghosts D} where
             (generates_cut e clock still settled recovers (stops state (opens was state settled recovers) told));
         cause = stopped_cause e still.faults_later stops cause;
         no_header = λ was settled none. absurd (none (marked was settled));
+        opened = opened_by (writes_takes writes);
         takes = takes_then (still_takes still) (writes_takes writes);
       }
 
@@ -672,9 +716,10 @@ module _ {D : Type 0} {d : Ghosts D} where
             from = λ was state settled told recovers.
                 let there = told_at_first (d.contents c) (d.contents e) gives.areas.contents_stay told in
                 none_in (FindsGenerated d status a e) (generated state) (none_listed ∙ listed_in was state settled recovers)
-                (generates_said status clock still settled recovers (carries state (opens was state settled recovers) there) writes.beside_stays.output says gives);
+                (generates_said status clock still settled recovers (carries state (opens was state settled recovers) there) writes.beside_stays.output says gives told);
             cause = said_cause d a c e lines Done status tt takes.out_faults_later says;
             no_header = λ was settled none. absurd (none (marked was settled));
+            opened = opened_by (takes_then (writes_takes writes) (gives_takes gives));
             takes = takes_then takes (gives_takes gives);
           }
 

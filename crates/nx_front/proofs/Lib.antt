@@ -1,5 +1,6 @@
 mod CommandLineLemmas
 mod ClockLemmas
+mod LogLemmas
 mod MomentLemmas
 mod ServeLemmas
 mod ServingLaws

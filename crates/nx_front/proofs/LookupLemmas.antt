@@ -1,5 +1,5 @@
 -- Lists of lookups, and the pages that they read.
-use Rattle.std.proofs.Common.{◌≡◌, ℕ, ◌+◌, true, List, [], ◌∷◌, ◌++◌, refl, arith}
+use Rattle.std.proofs.Common.{◌≡◌, ℕ, ◌+◌, true, false, List, [], ◌∷◌, ◌++◌, refl, sym, ap, ◌∙◌, subst, arith}
 use Rattle.std.proofs.lemmas.Bool.{false≢true}
 use Rattle.std.proofs.lemmas.List.Elements.{All-nil, All-cons, All-head, All-tail}
 use Rattle.nx_records.specs.Words.{Held}
@@ -7,12 +7,33 @@ use Rattle.nx_script.specs.declared.command.Command.{Command}
 use Rattle.nx_script.specs.declared.request.Request.{Request}
 use Rattle.nx_script.specs.declared.request.Request.TheVariants.{Single, Transaction}
 use Rattle.nx_state.specs.State.{State}
-use Rattle.nx_front.specs.Lookups.{is_lookup_request, AreLookups, ReadsForRequest, ReadForAll}
+use Rattle.nx_host.specs.declared.disk.Disk.{Ghosts}
+use Rattle.nx_steps.specs.Requests.{may_change_request}
+use Rattle.nx_store.specs.Reads.{needs_no_page_request}
+use Rattle.nx_store.specs.declared.store.Store.{Store}
+use Rattle.nx_front.specs.Lookups.{is_lookup_request, AreLookups, ReadsForRequest, ReadsRequestWithin, ReadForAll}
 
--- a lookup is a command that stands alone
-pub alone_lookup : (request : Request) → is_lookup_request request ≡ true → (command : Command) × (request ≡ Single command)
-alone_lookup (Single command) is = (command, refl)
-alone_lookup (Transaction commands) is = absurd (false≢true is)
+-- a transaction that is a lookup has no commands
+no_commands : (commands : List Command) → is_lookup_request (Transaction commands) ≡ true → commands ≡ []
+no_commands [] is = refl
+no_commands (command ∷ commands) is = absurd (false≢true is)
+
+pub lookup_stays : (request : Request) (commands : List Command) → request ≡ Transaction commands → is_lookup_request request ≡ true
+    → may_change_request (Transaction commands) ≡ false
+lookup_stays request commands is lookup =
+    ap (λ (ks : List Command). may_change_request (Transaction ks)) (no_commands commands (sym (ap is_lookup_request is) ∙ lookup))
+
+pub lookup_unread : (request : Request) (commands : List Command) → request ≡ Transaction commands → is_lookup_request request ≡ true
+    → needs_no_page_request (Transaction commands) ≡ true
+lookup_unread request commands is lookup =
+    ap (λ (ks : List Command). needs_no_page_request (Transaction ks)) (no_commands commands (sym (ap is_lookup_request is) ∙ lookup))
+
+-- ... and reads no page
+pub lookup_reads : {D : Type 0} (d : Ghosts D) (request : Request) (commands : List Command) (store : Store) (before after : D) → request ≡ Transaction commands
+    → is_lookup_request request ≡ true → d.reads after ≡ d.reads before → ReadsRequestWithin d request store before after
+lookup_reads d request commands store before after is lookup same state at =
+    let nothing : request ≡ Transaction [] = is ∙ ap (λ (ks : List Command). Transaction ks) (no_commands commands (sym (ap is_lookup_request is) ∙ lookup)) in
+    (0, omega (arith, same), subst (λ (r : Request). ReadsForRequest at.held state r 0) (sym nothing) refl)
 
 -- all but the last, and the last
 pub lookups_but_last : (requests : List Request) (request : Request) → AreLookups (requests ++ request ∷ []) → AreLookups requests × (is_lookup_request request ≡ true)

@@ -10,7 +10,7 @@ use Rattle.nx_host.specs.Phase.{LeavesAreas, TakesAlone, GivesAlone}
 use Rattle.nx_host.specs.Still.{WritesAlone}
 use Rattle.nx_host.proofs.OutputLemmas.{appends_nothing, appends_then, keeps_prefix}
 use Rattle.nx_script.specs.declared.command.Command.{Command}
-use Rattle.nx_script.specs.declared.command.Command.TheVariants.{Export, Checkpoint}
+use Rattle.nx_script.specs.declared.command.Command.TheVariants.{Export}
 use Rattle.nx_script.specs.declared.request.Request.{Request}
 use Rattle.nx_script.specs.declared.request.Request.TheVariants.{Single}
 use Rattle.nx_script.specs.declared.reply.Reply.{Reply}
@@ -23,7 +23,10 @@ use Rattle.nx_store.specs.declared.store.Store.{Store}
 use Rattle.nx_store.specs.declared.error.EngineError.{EngineError}
 use Rattle.nx_store.specs.declared.error.EngineError.TheVariants as engine
 use Rattle.nx_store.proofs.AtLemmas.{at_beside, at_image}
+use Rattle.nx_nav.specs.Given.{AsksAndGives}
 use Rattle.nx_store.proofs.CaseLemmas.{quiet_leaves}
+use Rattle.nx_store.proofs.LogLemmas.{areas_keep, log_of_look}
+use Rattle.nx_front.proofs.LogLemmas.{beside_rests, turn_behind, leaves_turn}
 use Rattle.nx_steps.specs.Step.{may_change}
 use Rattle.nx_steps.proofs.RequestLemmas.{other_requests_stay}
 use Rattle.nx_filters.specs.declared.status.Status.{Status}
@@ -113,6 +116,10 @@ stops_giving give_error.NoMemory = tt
 -- the turn of a request that came in a state
 abbrev turn_of : {state : State} (request : Request) → StoreTurn state request → Turn
 turn_of request turn = record { request = request; reply = turn.reply; next = turn.next }
+
+-- ... of an export
+abbrev exported_turn : List ℕ → Reply → State → Turn
+exported_turn name reply state = record { request = Single (Export name); reply = One reply; next = state }
 
 module _ {D : Type 0} {d : Ghosts D} where
   -- before the first turn
@@ -291,9 +298,10 @@ module _ {D : Type 0} {d : Ghosts D} where
 
   -- a request isn't begun, while a part is given of what the block has
   begun_none : {status : Status} {first now next : D} {state : State} {turns : List Turn} {store : Store} {block : List ℕ} (request : Request) → HasClock d →
-      HasServed d state turns store block first now → ShowsGiven d block (state_after state turns) now next → HasBegun d status state (requests_of turns ++ request ∷ []) first next
+      HasServed d state turns store block first now → ShowsGiven d block (state_after state turns) now next → HasBegun d status state turns (requests_of turns ++ request ∷ []) first next
   begun_none {turns = turns} request clock served gives = record {
     turns = turns;
+    goes_on = inl refl;
     rest = request ∷ [];
     parts = refl;
     run = run_given served gives;
@@ -302,9 +310,10 @@ module _ {D : Type 0} {d : Ghosts D} where
 
   -- it is begun
   begun_one : {status : Status} {first next : D} {state : State} (turns : List Turn) (turn : Turn) → HasRun d state (turns ++ turn ∷ []) first next →
-      (EndsBetween status → LeavesMoments d next (ShowsBetween (d.beside first).output state (turns ++ turn ∷ []))) → HasBegun d status state (requests_of turns ++ turn.request ∷ []) first next
+      (EndsBetween status → LeavesMoments d next (ShowsBetween (d.beside first).output state (turns ++ turn ∷ []))) → HasBegun d status state turns (requests_of turns ++ turn.request ∷ []) first next
   begun_one turns turn run between = record {
     turns = turns ++ turn ∷ [];
+    goes_on = inr (turn, refl);
     rest = [];
     parts = append-nil (requests_of (turns ++ turn ∷ [])) ∙ requests_more turns turn;
     run = run;
@@ -313,13 +322,13 @@ module _ {D : Type 0} {d : Ghosts D} where
 
   -- a first part of an export was given
   part_begun : {status : Status} {first mid next : D} {store : Store} {state : State} {turns : List Turn} {block : List ℕ} (request : Request) → HasClock d → HasServed d state turns store block first mid → block ≡ [] →
-      GivesPart d (state_after state turns) request mid next → HasBegun d status state (requests_of turns ++ request ∷ []) first next
+      GivesPart d (state_after state turns) request mid next → HasBegun d status state turns (requests_of turns ++ request ∷ []) first next
   part_begun {status = status} {first = first} {mid = mid} {next = next} {state = state} {turns = turns} {block = block} request clock served none part =
-      let turn : Turn = record { request = Single (Export part.name); reply = One part.reply; next = state_after state turns } in
+      let turn = exported_turn part.name part.reply (state_after state turns) in
       let there = served_quietly turn served part.step refl in
       let gives = subst (λ (t : State). ShowsGiven d (block ++ reply_text part.reply) t mid next) (sym (after_more state turns turn))
       (subst (λ (b : List ℕ). ShowsGiven d (b ++ reply_text part.reply) (state_after state turns) mid next) (sym none) part.time) in
-      subst (λ (r : Request). HasBegun d status state (requests_of turns ++ r ∷ []) first next) (sym part.is) (begun_one turns turn (run_given there gives) (λ ends. between_given clock there gives))
+      subst (λ (r : Request). HasBegun d status state turns (requests_of turns ++ r ∷ []) first next) (sym part.is) (begun_one turns turn (run_given there gives) (λ ends. between_given clock there gives))
 
   -- it isn't begun where the block isn't given
   pub block_begins : {now next : D} {store : Store} {block : List ℕ} (request : Request) (stop : GiveError) → HasClock d → GivesAlone d block now next →
@@ -333,18 +342,22 @@ module _ {D : Type 0} {d : Ghosts D} where
   loud_answers request none gave alone takes answers first state turns served told =
       let there = given_block served none gave alone (takes.told told) in
       let gives = answers (state_after state turns) there.at told in
-      let turn = turn_of request gives.turn in
-      (turn, refl, served_loudly turn there none gives.turn.step gives.at gives.gave gives.time, gives.log.emptied)
+      let turn = turn_of request gives.turn in (
+        turn,
+        refl,
+        served_loudly turn there none gives.turn.step gives.at gives.gave gives.time,
+        turn_behind (beside_rests alone.areas (takes.told told)) (leaves_turn turn gives.at (gives.time).later gives.log),
+      )
 
   -- ... or begun
   loud_stops : {first mid next : D} {store : Store} {state : State} {turns : List Turn} {block : List ℕ} (store' : Store) (request : Request) (e : EngineError) → HasClock d →
       HasServed d state turns store block first mid → block ≡ [] → IsAnswered d (Err e) (state_after state turns) request store store' mid next →
-      StopsShort (status_of_engine e) × HasBegun d (status_of_engine e) state (requests_of turns ++ request ∷ []) first next
-  loud_stops {turns = turns} store' request engine.Write clock served none (turn, at, time, holds) =
+      StopsShort (status_of_engine e) × HasBegun d (status_of_engine e) state turns (requests_of turns ++ request ∷ []) first next
+  loud_stops {turns = turns} store' request engine.Write clock served none (turn, at, time, holds, log) =
       (tt, begun_one turns (turn_of request turn) (run_loudly (turn_of request turn) served none turn.step time) (λ ends. absurd ends))
-  loud_stops {mid = mid} {next = next} {state = state} {turns = turns} {block = block} store' request engine.Memory clock served none (at, inl shows, holds) =
+  loud_stops {mid = mid} {next = next} {state = state} {turns = turns} {block = block} store' request engine.Memory clock served none (at, inl shows, holds, spares) =
       (tt, begun_none request clock served (shows_gives d mid next (state_after state turns) block shows))
-  loud_stops store' request engine.Memory clock served none (at, inr part, holds) = (tt, part_begun request clock served none part)
+  loud_stops store' request engine.Memory clock served none (at, inr part, holds, spares) = (tt, part_begun request clock served none part)
   loud_stops {mid = mid} {next = next} {state = state} {turns = turns} {block = block} store' request engine.Disk clock served none (inl (inl shows)) =
       (tt, begun_none request clock served (shows_gives d mid next (state_after state turns) block shows))
   loud_stops {turns = turns} store' request engine.Disk clock served none (inl (inr (turn, shows))) =
@@ -381,7 +394,7 @@ module _ {D : Type 0} {d : Ghosts D} where
         turn,
         refl,
         subst (λ (l : List ℕ). HasServed d state (turns ++ turn ∷ []) store' l first next) (sym is) (served_quietly turn (quietly served same at alone shows) step same),
-        log.emptied,
+        leaves_turn turn at (alone.time).later log,
       )
 
   -- ... but for the text of its reply
@@ -395,8 +408,8 @@ module _ {D : Type 0} {d : Ghosts D} where
 
   quiet_stops : {first now next : D} {store : Store} {state : State} {turns : List Turn} {block : List ℕ} (store' : Store) (command : Command) (e : EngineError) → HasClock d →
       may_change command ≡ false → HasServed d state turns store block first now → IsApplied d (Err e) (state_after state turns) command store' now next →
-      StopsShort (status_of_engine e) × HasBegun d (status_of_engine e) state (requests_of turns ++ Single command ∷ []) first next
-  quiet_stops {now = now} {next = next} {state = state} {turns = turns} {block = block} store' command engine.Memory clock calm served (at, shows) =
+      StopsShort (status_of_engine e) × HasBegun d (status_of_engine e) state turns (requests_of turns ++ Single command ∷ []) first next
+  quiet_stops {now = now} {next = next} {state = state} {turns = turns} {block = block} store' command engine.Memory clock calm served (at, shows, spares) =
       (tt, begun_none (Single command) clock served (shows_gives d now next (state_after state turns) block shows))
   quiet_stops {now = now} {next = next} {state = state} {turns = turns} {block = block} store' command engine.Disk clock calm served (inl shows) =
       (tt, begun_none (Single command) clock served (shows_gives d now next (state_after state turns) block shows))
@@ -416,23 +429,26 @@ module _ {D : Type 0} {d : Ghosts D} where
 
   -- A document's text is given behind what the block has, but for a last part.
   exported : {first now next : D} {state : State} {turns : List Turn} {store store' : Store} {name block left : List ℕ} {result : Result (Unit {0}) EngineError} → HasServed d state turns store block first now →
-      (done : IsExported d result (state_after state turns) name block left store' now next) → (turn : Turn) × (turn.request ≡ Single (Export name)) ×
-      HasServed d state (turns ++ turn ∷ []) store (block ++ reply_text done.reply) first now × (state_after state (turns ++ turn ∷ []) ≡ state_after state turns)
+      (done : IsExported d result (state_after state turns) name block left store' now next) →
+      HasServed d state (turns ++ exported_turn name done.reply (state_after state turns) ∷ []) store (block ++ reply_text done.reply) first now
+      × (state_after state (turns ++ exported_turn name done.reply (state_after state turns) ∷ []) ≡ state_after state turns)
   exported {state = state} {turns = turns} {name = name} served done =
-      let turn : Turn = record { request = Single (Export name); reply = One done.reply; next = state_after state turns } in
-      (turn, refl, served_quietly turn served done.step refl, after_more state turns turn)
+      let turn = exported_turn name done.reply (state_after state turns) in
+      (served_quietly turn served done.step refl, after_more state turns turn)
 
-  pub export_answers : {now next : D} {store store' : Store} {block left shown name : List ℕ} {u : Unit {0}} (command : Command) → command ≡ Export name → shown ≡ name →
+  pub export_answers : {now next : D} {store store' : Store} {block left shown name : List ℕ} {u : Unit {0}} (command : Command) → command ≡ Export name → shown ≡ name → AsksAndGives d now next →
       ((state : State) → IsAt d store now state → IsSome (d.contents next) → IsExported d (Ok u) state shown block left store' now next) → AnswersNext d (Single command) store store' block left now next
-  export_answers {now = now} {next = next} {store' = store'} {block = block} {shown = shown} {name = name} command is same_name exports first state turns served told =
+  export_answers {now = now} {next = next} {store' = store'} {block = block} {shown = shown} {name = name} command is same_name areas exports first state turns served told =
       let done = exports (state_after state turns) served.at told in
-      let (turn, of_it, there, same) = exported served done in
+      let turn = exported_turn shown done.reply (state_after state turns) in
+      let (there, same) = exported served done in
       let (at, but) = done.given in (
         turn,
-        of_it ∙ ap (λ (n : List ℕ). Single (Export n)) same_name ∙ ap (λ (c : Command). Single c) (sym is),
+        ap (λ (n : List ℕ). Single (Export n)) same_name ∙ ap (λ (c : Command). Single c) (sym is),
         served_given but.done there (subst (λ (t : State). IsAt d store' next t) (sym same) at) but.parts but.gave
             (subst (λ (t : State). ShowsGiven d (block ++ reply_text done.reply) t now next) (sym same) done.time),
-        λ last. absurd (let none : Single (Export name) ≡ Single Checkpoint = ap (λ (c : Command). Single c) (sym is) ∙ last in cc),
+        leaves_turn turn at (done.time).later
+            (log_of_look d (Export shown) done.reply (state_after state turns) now next (refl, λ last. cc) (areas_keep d now next areas.contents_stay told areas.images_stay)),
       )
 
   export_stops : {first now next : D} {store store' : Store} {state : State} {turns : List Turn} {name block left : List ℕ} (e : EngineError) → HasServed d state turns store block first now →
@@ -448,12 +464,13 @@ module _ {D : Type 0} {d : Ghosts D} where
 
   pub export_begins : {now next : D} {store store' : Store} {block left shown name : List ℕ} (command : Command) (e : EngineError) → HasClock d → command ≡ Export name → shown ≡ name →
       ((state : State) → IsAt d store now state → IsSome (d.contents next) → IsExported d (Err e) state shown block left store' now next) → BeginsNext d (Single command) (status_of_engine e) store block now next
-  export_begins {now = now} {next = next} {block = block} command e clock is same_name exports first state turns served told =
+  export_begins {now = now} {next = next} {block = block} {shown = shown} command e clock is same_name exports first state turns served told =
       let done = exports (state_after state turns) served.at told in
-      let (turn, of_it, there, same) = exported served done in
+      let turn = exported_turn shown done.reply (state_after state turns) in
+      let (there, same) = exported served done in
       let gives = subst (λ (t : State). ShowsGiven d (block ++ reply_text done.reply) t now next) (sym same) done.time in (
         export_stops e served done done.given,
-        subst (λ (r : Request). HasBegun d (status_of_engine e) state (requests_of turns ++ r ∷ []) first next) (of_it ∙ ap (λ (n : List ℕ). Single (Export n)) same_name ∙ ap (λ (c : Command). Single c) (sym is))
+        subst (λ (r : Request). HasBegun d (status_of_engine e) state turns (requests_of turns ++ r ∷ []) first next) (ap (λ (n : List ℕ). Single (Export n)) same_name ∙ ap (λ (c : Command). Single c) (sym is))
             (begun_one turns turn (run_given there gives) (λ ends. between_given clock there gives)),
       )
 

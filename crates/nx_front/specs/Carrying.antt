@@ -14,6 +14,7 @@ use Rattle.nx_store.specs.declared.error.EngineError.{EngineError}
 use Rattle.nx_store.specs.declared.error.EngineError.TheVariants as engine
 use Rattle.nx_store.specs.Store.{IsAt, Shows}
 use Rattle.nx_front.specs.Turns.{Turn, IsRun, state_after, requests_of, replies_of, IsAfterSome}
+use Rattle.nx_front.specs.Logs.{LogsFollow, LogsFollowBut}
 use Rattle.nx_front.specs.Generating.{summary_of}
 
 -- how many nodes the first document of that name has, in a list of documents
@@ -26,11 +27,12 @@ abbrev pub exported_size : Reply → ℕ
 exported_size (reply.Exported text) = length text
 exported_size _ = 0
 
--- Turns were had from a state: the store is at the last one, the output stayed, and each image was of the state after some of them.
+-- Turns were had from a state: the store is at the last one, the output stayed, each image was of the state after some of them, and each left its log.
 pub record HasTurned {D : Type 0} (d : Ghosts D) (state : State) (turns : List Turn) (store : Store) (first now : D) : Type 0 where
   pub run : IsRun state turns
   pub at : IsAt d store now (state_after state turns)
   pub time : Shows d (IsAfterSome state turns) first now
+  pub logs : LogsFollow d state turns first now
 
 -- Of these requests this many were carried out, with these replies; and so there were such turns from each state that the store was at.
 pub record IsCarrying {D : Type 0} (d : Ghosts D) (begun : Store) (requests : List Request) (replies : List Answer) (store : Store) (first now : D) : Type 0 where
@@ -63,6 +65,8 @@ pub record CarriesSome {D : Type 0} (d : Ghosts D) (all : List Request) (error :
   pub rest : List Request
   pub parts : requests_of turns ++ rest ≡ all
   pub time : Shows d (IsAfterSome state turns) first now
+  pub between : D
+  pub logs : LogsFollowBut d state turns first between
 
 -- ... from each state that the store was at
 abbrev pub StopsCarrying : {D : Type 0} → Ghosts D → List Request → EngineError → Store → D → D → Type 0

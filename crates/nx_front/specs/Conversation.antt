@@ -22,6 +22,7 @@ use Rattle.nx_filters.specs.declared.status.Status.{Status}
 use Rattle.nx_filters.specs.declared.status.Status.TheVariants.{Done, Usage, Refused, DiskFault, ReadFault, WriteFault, NoMemory, NotAStore, Damaged, TooMuch}
 use Rattle.nx_filters.specs.Outcome.{TakesFew, CountsGrow, EndsWhole}
 use Rattle.nx_front.specs.Lookups.{AreLookups, ReadForAll}
+use Rattle.nx_front.specs.Logs.{LeavesTurn, LogsFollow}
 use Rattle.nx_front.specs.Serving.{Turn, IsRun, state_after, requests_of, texts_of, ShowsBetween, LeavesMoments, EndsBetween, EndsWithCheckpoint, HasEmptyLog, LeavesAll, TakesNoByte, ReadsLookups, ServesFrom}
 
 -- A moment of a run, turn by turn. Nothing of the first reply is out, and the image is of the state before it; or a part of it is, and the image is of the state
@@ -80,6 +81,7 @@ pub record IsConversing {D : Type 0} (d : Ghosts D) (begun : Store) (taken : Lis
   pub given : HasGivenRequestsIn script taken requests (d.beside first).input (d.beside now).input
   pub goes : IsLater d first now
   pub served : (state : State) → IsAt d begun first state → IsSome (d.contents now) → (turns : List Turn) × (requests_of turns ≡ requests) × HasServed d state turns store block first now
+      × LogsFollow d state turns first now
   pub emptied : (state : State) → IsAt d begun first state → IsSome (d.contents now) → EndsWithCheckpoint requests → HasEmptyLog d now
   pub unbegun : requests ≡ [] → (block ≡ []) × LeavesAll d first now
   pub looked : AreLookups requests → (state : State) (at : IsAt d begun first state) → IsSome (d.contents now) → HasLookedUp d at.held state requests store first now
@@ -114,9 +116,11 @@ IsUnanswered d NoMemory old new = Unit {0}
 IsUnanswered d (Damaged page) old new = Unit {0}
 IsUnanswered d _ old new = ⊥
 
--- A run had turns of the first of these requests, and ended between two of them, but for a fault of the disk or of writing.
-pub record HasBegun {D : Type 0} (d : Ghosts D) (status : Status) (state : State) (requests : List Request) (first now : D) : Type 0 where
+-- A run had turns of the first of these requests, the ones that were answered and maybe one more, and ended between two of them, but for a fault of the disk or of
+-- writing.
+pub record HasBegun {D : Type 0} (d : Ghosts D) (status : Status) (state : State) (answered : List Turn) (requests : List Request) (first now : D) : Type 0 where
   pub turns : List Turn
+  pub goes_on : (turns ≡ answered) ⊎ ((turn : Turn) × (turns ≡ answered ++ turn ∷ []))
   pub rest : List Request
   pub parts : requests_of turns ++ rest ≡ requests
   pub run : HasRun d state turns first now
@@ -126,13 +130,13 @@ pub record HasBegun {D : Type 0} (d : Ghosts D) (status : Status) (state : State
 abbrev pub AnswersNext : {D : Type 0} → Ghosts D → Request → Store → Store → List ℕ → List ℕ → D → D → Type 0
 AnswersNext {D} d request store store' block block' now next =
     (first : D) (state : State) (turns : List Turn) → HasServed d state turns store block first now → IsSome (d.contents next) →
-    (turn : Turn) × (turn.request ≡ request) × HasServed d state (turns ++ turn ∷ []) store' block' first next × (request ≡ Single Checkpoint → HasEmptyLog d next)
+    (turn : Turn) × (turn.request ≡ request) × HasServed d state (turns ++ turn ∷ []) store' block' first next × LeavesTurn d (state_after state turns) turn now next
 
 -- ... or it is begun at most
 abbrev pub BeginsNext : {D : Type 0} → Ghosts D → Request → Status → Store → List ℕ → D → D → Type 0
 BeginsNext {D} d request status store block now next =
     (first : D) (state : State) (turns : List Turn) → HasServed d state turns store block first now → IsSome (d.contents next) →
-    StopsShort status × HasBegun d status state (requests_of turns ++ request ∷ []) first next
+    StopsShort status × HasBegun d status state turns (requests_of turns ++ request ∷ []) first next
 
 -- why a conversation ends so, whatever the store is at
 abbrev pub IsEnded : {D : Type 0} → Ghosts D → Status → D → D → Type 0

@@ -23,6 +23,7 @@ use Rattle.nx_store.specs.Store.{TakesNone}
 use Rattle.nx_filters.specs.declared.status.Status.{Status}
 use Rattle.nx_filters.specs.declared.status.Status.TheVariants.{Done, Refused, DiskFault, WriteFault, NoMemory, NotAStore, Damaged}
 use Rattle.nx_front.specs.Turns.{Turn, IsRun, state_after, requests_of, replies_of, IsAfterSome}
+use Rattle.nx_front.specs.Logs.{LeavesLogs, IsOpenedOrStill}
 use Rattle.nx_front.specs.Init.{exists_line, IsUntroubled}
 use Rattle.nx_front.specs.Serving.{LeavesMoments, EndsWell, EndsWithoutHeader}
 
@@ -74,7 +75,8 @@ EndsGenerating all state turns NoMemory old new = Unit {0}
 EndsGenerating all state turns _ old new = ⊥
 
 -- From a state without such a document there is one run of the first of the generator's commands: those that were answered, and, where one was begun, that one. Each
--- moment is one of it, also the one at the end. Where all went well, each image that a crash may leave is of the state after all commands.
+-- moment is one of it, also the one at the end. Where all went well, each image that a crash may leave is of the state after all commands. The log is what the
+-- commands leave of it, one after the other.
 pub record GeneratesFrom {D : Type 0} (d : Ghosts D) (all : List Request) (state : State) (status : Status) (old new : D) : Type 0 where
   pub turns : List Turn
   pub run : IsRun state turns
@@ -84,6 +86,7 @@ pub record GeneratesFrom {D : Type 0} (d : Ghosts D) (all : List Request) (state
   pub left : LeavesMoments d new (ShowsGenerating (d.beside old).output all state turns)
   pub ends : EndsGenerating all state turns status (d.beside old) (d.beside new)
   pub last : status ≡ Done → (i : Image) → d.may_leave new i → Recovers i (Some (state_after state turns))
+  pub logs : LeavesLogs d state turns status old new
 
 -- how a run ends that found such a document: whether the line is out that says so
 abbrev pub EndsFinding : Status → Beside → Beside → Type 0
@@ -115,11 +118,13 @@ IsGenerationCaused d NotAStore old new = (was : Image) → IsSettled d old was �
 IsGenerationCaused d (Damaged page) old new = (was : Image) (state : State) → IsSettled d old was → IsSome (d.contents new) → Recovers was (Some state) → ⊥
 IsGenerationCaused d _ old new = ⊥
 
--- How `gen` is carried out: from each state that the disk may hold, while its bytes are told; and why it ends so in any case. It takes no input.
+-- How `gen` is carried out: from each state that the disk may hold, while its bytes are told; and why it ends so in any case. It takes no input. Anything that came of
+-- it came behind the opening of the store, which renews what a failed sync may have lost.
 pub record Generates {D : Type 0} (d : Ghosts D) (seed n : ℕ) (status : Status) (old new : D) : Type 0 where
   pub from : (was : Image) (state : State) → IsSettled d old was → IsSome (d.contents new) → Recovers was (Some state) → GeneratesIn d (generated_requests seed n) state status old new
   pub cause : IsGenerationCaused d status old new
   pub no_header : (was : Image) → IsSettled d old was → (HasHeader was → ⊥) → EndsWithoutHeader status × IsStill d old new
+  pub opened : IsOpenedOrStill d old new
   pub takes : TakesNone d old new
 
 -- with one of these it ends where nothing fails and such a document is there

@@ -1,5 +1,6 @@
 pub mod CommandLine
 pub mod Turns
+pub mod Logs
 pub mod Lookups
 pub mod Serving
 pub mod Conversation

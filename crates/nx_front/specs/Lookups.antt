@@ -9,10 +9,11 @@ use Rattle.nx_store.specs.declared.store.Store.{Store}
 use Rattle.nx_store.specs.Reads.{is_lookup, ReadsFor}
 use Rattle.nx_store.specs.Store.{IsAt}
 
--- a command that is a lookup: `get`, `names`, `rules` or a line that is no command; a transaction is none
+-- a lookup: `get`, `names`, `rules`, a line that is no command, or a transaction without commands
 abbrev pub is_lookup_request : Request → Bool
 is_lookup_request (Single command) = is_lookup command
-is_lookup_request (Transaction commands) = false
+is_lookup_request (Transaction []) = true
+is_lookup_request (Transaction (command ∷ commands)) = false
 
 -- each of these requests is one
 abbrev pub AreLookups : List Request → Type 0
@@ -21,7 +22,8 @@ AreLookups requests = All (λ request. is_lookup_request request ≡ true) reque
 -- A request reads so many pages at most of what is held, which is this state. Of those that are no lookups nothing is said.
 abbrev pub ReadsForRequest : Held → State → Request → ℕ → Type 0
 ReadsForRequest held state (Single command) pages = ReadsFor held state command pages
-ReadsForRequest held state (Transaction commands) pages = Unit {0}
+ReadsForRequest held state (Transaction []) pages = pages ≡ 0
+ReadsForRequest held state (Transaction (command ∷ commands)) pages = Unit {0}
 
 -- From each state that the store was at, the request read no more pages than that.
 abbrev pub ReadsRequestWithin : {D : Type 0} → Ghosts D → Request → Store → D → D → Type 0

@@ -21,6 +21,7 @@ use Rattle.nx_filters.specs.declared.status.Status.{Status}
 use Rattle.nx_filters.specs.declared.status.Status.TheVariants.{Done, Usage, Refused, DiskFault, ReadFault, WriteFault, NoMemory, NotAStore, Damaged, TooMuch}
 use Rattle.nx_filters.specs.Outcome.{TakesFew, CountsGrow, EndsWhole}
 use Rattle.nx_front.specs.Lookups.{AreLookups, ReadForAll}
+use Rattle.nx_front.specs.Logs.{LeavesLogs, IsOpenedOrStill}
 pub use Rattle.nx_front.specs.Turns.{Turn, IsRun, state_after, requests_of}
 
 -- the texts of the replies, one after the other
@@ -102,7 +103,7 @@ HasEmptyLog d disk = (i : Image) → d.may_leave disk i → image_group_count i 
 
 -- There is one run from this state on, over the first requests of the input, those that were answered and, where one was begun, that one. Each moment is one of
 -- it, also the one at the end, which is between two requests, but for a fault of the disk or of writing. Where all went well, each image that a crash may leave is
--- that of its last state.
+-- that of its last state. The log is what the requests leave of it, one after the other.
 pub record ServesFrom {D : Type 0} (d : Ghosts D) (state : State) (status : Status) (old new : D) : Type 0 where
   pub turns : List Turn
   pub run : IsRun state turns
@@ -116,6 +117,7 @@ pub record ServesFrom {D : Type 0} (d : Ghosts D) (state : State) (status : Stat
   pub between : EndsBetween status → LeavesMoments d new (ShowsBetween (d.beside old).output state turns)
   pub last : status ≡ Done → (i : Image) → d.may_leave new i → Recovers i (Some (state_after state turns))
   pub emptied : status ≡ Done → EndsWithCheckpoint (requests_of turns) → HasEmptyLog d new
+  pub logs : LeavesLogs d state turns status old new
 
 -- why a run over a store ends so, whatever the disk holds
 abbrev pub IsCaused : {D : Type 0} → Ghosts D → Status → D → D → Type 0
@@ -160,11 +162,13 @@ pub record ReadsLookups {D : Type 0} (d : Ghosts D) (at_first : ℕ) (held : Hel
   pub few : AreLookups requests → (pages : ℕ) × ReadForAll held state requests pages × (d.reads new ≤ d.reads old + (at_first + pages))
 
 -- How a script is carried out over a store: from each state that the disk may hold, while its bytes are told; and why it ends so in any case. Whatever the disk
--- holds, it is left as it was where no byte of the input was taken, so also where the store couldn't be opened. The pages that are read are those of opening and of lookups that came.
+-- holds, it is left as it was where no byte of the input was taken, so also where the store couldn't be opened; and anything that came of the script came behind the
+-- opening of the store, which renews what a failed sync may have lost. The pages that are read are those of opening and of lookups that came.
 pub record Serves {D : Type 0} (d : Ghosts D) (status : Status) (old new : D) : Type 0 where
   pub from : (was : Image) (state : State) → IsSettled d old was → IsSome (d.contents new) → Recovers was (Some state) → ServesFrom d state status old new
   pub cause : IsCaused d status old new
   pub no_header : (was : Image) → IsSettled d old was → (HasHeader was → ⊥) → EndsWithoutHeader status × IsStill d old new
+  pub opened : IsOpenedOrStill d old new
   pub untaken : TakesNoByte (d.beside old) (d.beside new) → LeavesAll d old new
   pub reads : (was : Image) (held : Held) (state : State) → IsSettled d old was → IsSome (d.contents new) → Holds (replay was) held → HoldsState held state
       → ReadsLookups d (opening_reads was held.catalog.bytes) held state old new

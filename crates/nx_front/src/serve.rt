@@ -7,7 +7,8 @@ ghost use Rattle.nx_script.specs.Script.{IsDrained};
 ghost use Rattle.nx_script.specs.Requests.{HasGivenRequests, CanComeRequest};
 ghost use Rattle.nx_steps.specs.Step.{may_change};
 ghost use Rattle.nx_store.specs.Store.{TakesNone, HoldsOn};
-ghost use Rattle.nx_store.specs.Reads.{is_lookup, ReadsWithin};
+ghost use Rattle.nx_steps.specs.Requests.{may_change_request};
+ghost use Rattle.nx_store.specs.Reads.{is_lookup, needs_no_page_request, ReadsWithin};
 ghost use Rattle.nx_front.specs.Lookups.{is_lookup_request, ReadsRequestWithin};
 ghost use Rattle.nx_front.specs.Serving.{Serves};
 ghost use Rattle.nx_front.specs.Conversation.{AnswersNext, BeginsNext, IsUnanswered, AnswersAll, EndsConversing, Converses, conversation_status, status_of_engine};
@@ -109,7 +110,9 @@ fn answer<R: Threads + Sync, H: Host>(
             }
             answer_behind(rt, host, store, block, command)
         }
-        transaction => answer_alone(rt, host, store, block, transaction),
+        Request::Transaction(commands) => {
+            answer_alone(rt, host, store, block, Request::Transaction(commands))
+        }
     }
 }
 
@@ -126,6 +129,8 @@ fn answer_alone<R: Threads + Sync, H: Host>(
     ensures err { IfErr result (λ status. BeginsNext ⟦<H as Disk>⟧ request status store.old block.old host.old host.new) }
     ensures cause { IfErr result (λ status. IsUnanswered ⟦<H as Disk>⟧ status host.old host.new) }
     ensures beside { TakesNone ⟦<H as Disk>⟧ host.old host.new }
+    ensures holds { may_change_request request ≡ false → OnOk result (HoldsOn ⟦<H as Disk>⟧ store.old store.new host.old host.new) }
+    ensures unread { needs_no_page_request request ≡ true → H.reads host.new ≡ H.reads host.old }
 {
     give_block(host, block)?;
     if let Err(error) = store.answer(rt, host, request) {

@@ -19,7 +19,7 @@ use Rattle.nx_script.specs.declared.reply.Reply.{Reply}
 use Rattle.nx_script.specs.declared.reply.Reply.TheVariants.{Refused}
 use Rattle.nx_script.specs.declared.reply.ReplyError.{ReplyError}
 use Rattle.nx_state.specs.State.{State}
-use Rattle.nx_steps.specs.Requests.{RequestStep}
+use Rattle.nx_steps.specs.Requests.{may_change_request, RequestStep}
 use Rattle.nx_store.specs.Store.{longest_log, is_ended, GoesOn, EndsNow, HoldsOn, RefusedHolds, IsAt, IsNow, HoldsNoState, IsOf, IsOfEither, IsShortened, Shows, ShowsBegun, GoesThrough, CommitsNothing, IsCarriedThrough, IsLeftUndone, IsApplied, NotApplied}
 use Rattle.nx_store.specs.Staying.{IsLeftByRequest, RecordsStay, LeavesOthers}
 use Rattle.nx_store.specs.Changing.{reply_of, HasReplyText, IsToldOrNot, IsCarriedWithText, DropsChanges, IsStoreLeft, NotPrepared, LeavesSaved, NotAllPrepared}
@@ -32,7 +32,7 @@ use Rattle.nx_store.specs.declared.error.EngineError.{EngineError}
 use Rattle.nx_store.specs.declared.error.EngineError.TheVariants as error
 use Rattle.nx_store.proofs.AtLemmas.{now_at, committed_at, at_runs, shows_still}
 use Rattle.nx_store.proofs.KeepLemmas.{later_rose, no_end}
-use Rattle.nx_store.proofs.LogLemmas.{some_value, still_none, log_stays, adds_one}
+use Rattle.nx_store.proofs.LogLemmas.{some_value, still_keeps, log_stays, kept_spares, adds_one, changes_other, changes_looks}
 use Rattle.nx_store.proofs.ShowLemmas.{shows_then, shows_written, shows_weaker, later_done, later_given_up}
 use Rattle.nx_store.proofs.StayingLemmas.{held_on, holds_later, held_leaves, ended_leaves, committed_leaves}
 
@@ -90,13 +90,14 @@ module _ {D : Type 0} (d : Ghosts D) where
         → IsCarriedThrough d state request answer s2 x0 x1
     held_done request answer holds other through state at told step =
         let after : IsAt d s2 x1 state = held_on d s0 s2 x0 x1 holds state at told in
-        (state, step, after, shows_weaker d (λ i of. inl of) (shows_still still at), log_stays d request answer state x0 x1 other through (still_none d s2 x0 x1 state still after))
+        (state, step, after, shows_weaker d (λ i of. inl of) (shows_still still at), log_stays d request answer state x0 x1 other through (still_keeps d x0 x1 still))
 
     -- ... and one that was given up
     pub given_up : (request : Request) (e : EngineError) → GivesUp d e s0 s2 x0 x1 → (state : State) → IsAt d s0 x0 state → IsSome (d.contents x1) → IsLeftUndone d e state request s2 x0 x1
     given_up request error.Disk why state at told = inl (shows_still still at)
     given_up request (error.Damaged page) why state at told = why.1 at.held state (now_at at)
-    given_up request error.Memory why state at told = (held_on d s0 s2 x0 x1 why.1 state at told, shows_still still at)
+    given_up request error.Memory why state at told =
+        (held_on d s0 s2 x0 x1 why.1 state at told, shows_still still at, kept_spares d request x0 x1 (still_keeps d x0 x1 still))
     given_up request error.Write why state at told = absurd why
     given_up request error.Ended why state at told = absurd why
     given_up request error.Exists why state at told = absurd why
@@ -137,7 +138,7 @@ module _ {D : Type 0} (d : Ghosts D) where
       pub refused_applied : (r : Result (Reply × List ℕ) EngineError) → IsToldOrNot (Refused e) r → (state : State) → IsAt d s0 x0 state → IsSome (d.contents x1) → RequestStep state (Single command) (One (Refused e)) state
           → IsApplied d (reply_of r) state command s2 x0 x1
       refused_applied (Ok answer) is state at told step =
-          subst (λ (a : Reply × List ℕ). IsApplied d (Ok a.0) state command s2 x0 x1) (sym is) (held_done (Single command) (One (Refused e)) holds other (λ goes. goes) state at told step)
+          subst (λ (a : Reply × List ℕ). IsApplied d (Ok a.0) state command s2 x0 x1) (sym is) (held_done (Single command) (One (Refused e)) holds other (λ goes. false≢true (sym goes.1)) state at told step)
       refused_applied (Err x) is state at told step =
           subst (λ (y : EngineError). IsApplied d (Err y) state command s2 x0 x1) (sym is) (given_up (Single command) error.Memory (on, holds) state at told)
 
@@ -175,17 +176,23 @@ module _ {D : Type 0} (d : Ghosts D) where
       commit_begun = inr (record { reply = answer; next = next; step = (ready.makes state at).1 }, commit_shows)
 
       -- behind it
-      pub commit_done : (s2 : Store) (g : Group) → log_length_of s0.records ≤ longest_log → request ≢ Single Checkpoint → (CommitsNothing request answer → ⊥) → ((was now : Image) → IsInStepWith d s1.records x1 was → d.contents x2 ≡ Some now → HasGroup g was now)
+      pub commit_done : (s2 : Store) (g : Group) → log_length_of s0.records ≤ longest_log → may_change_request request ≡ true → (CommitsNothing request answer → ⊥) → ((was now : Image) → IsInStepWith d s1.records x1 was → d.contents x2 ≡ Some now → HasGroup g was now)
           → ((was now : Image) → IsInStepWith d s1.records x1 was → d.contents x2 ≡ Some now → IsInStepWith d s2.records x2 now) → ((saved now : Held) (image : Image) → StandsFor d s1.records x1 saved now → d.contents x2 ≡ Some image → StandsFor d s2.records x2 now now)
           → HasNoChanges s2.records → s2.catalog ≡ s1.catalog → IsCarriedThrough d state request answer s2 x0 x2
-      commit_done s2 g short other commits more step stands none catalog =
+      commit_done s2 g short may commits more step stands none catalog =
           let image = some_value (d.contents x2) told in
           let adds = adds_one d state s0 s1.records s2.records x0 x1 x2 g short at still ((now.stands).keeps).image ((now.stands).keeps).step more step told in (
             next,
             (ready.makes state at).1,
             committed_at {d = d} s1 s2 x1 x2 at.held next now image.0 image.1 stands none catalog,
             commit_shows,
-            record { emptied = λ is. absurd (other is); grown = λ changed. adds; once = λ through. adds; none = λ nothing. absurd (commits nothing) },
+            record {
+              emptied = λ is. absurd (changes_other request may is);
+              grown = λ changed. adds;
+              once = λ through. adds;
+              none = λ nothing. absurd (commits nothing);
+              stays = λ looks. absurd (changes_looks request may looks);
+            },
           )
 
     pub commit_leaves : (s2 : Store) → ((saved now : Held) (image : Image) → StandsFor d s1.records x1 saved now → d.contents x2 ≡ Some image → StandsFor d s2.records x2 now now) → HasNoChanges s2.records → s2.catalog ≡ s1.catalog → LeavesOthers d request s0 s2 x0 x2
@@ -214,10 +221,10 @@ module _ {D : Type 0} (d : Ghosts D) where
 
   -- ... and a command
   pub later_applied : (s s1 s2 : Store) (x0 x1 x2 : D) (state : State) (command : Command) → WritesAlone d x0 x1 (λ i. (state : State) → IsAt d s x0 state → IsOf state i) → IsAt d s x0 state → IsSome (d.contents x1)
-      → IsAt d s1 x1 state → ((state : State) (was now : Image) → IsAt d s x0 state → IsSettled d x0 was → IsSettled d x1 now → IsShortened was now)
+      → IsAt d s1 x1 state → may_change_request (Single command) ≡ true → ((state : State) (was now : Image) → IsAt d s x0 state → IsSettled d x0 was → IsSettled d x1 now → IsShortened was now)
       → (r : Result Reply EngineError) → IsApplied d r state command s2 x1 x2 → IsApplied d r state command s2 x0 x2
-  later_applied s s1 s2 x0 x1 x2 state command first at told mid short (Ok r) applied = later_done d s s1 s2 x0 x1 x2 state (Single command) first at told mid short (One r) applied
-  later_applied s s1 s2 x0 x1 x2 state command first at told mid short (Err e) applied = later_given_up d s s1 s2 x0 x1 x2 state (Single command) first at told mid short e applied
+  later_applied s s1 s2 x0 x1 x2 state command first at told mid may short (Ok r) applied = later_done d s s1 s2 x0 x1 x2 state (Single command) first at told mid may short (One r) applied
+  later_applied s s1 s2 x0 x1 x2 state command first at told mid may short (Err e) applied = later_given_up d s s1 s2 x0 x1 x2 state (Single command) first at told mid may short e applied
 
   pub later_kept : (s0 s1 s2 : Store) (x0 x1 x2 : D) → HoldsOn d s0 s1 x0 x1 → (IsSome (d.contents x2) → IsSome (d.contents x1)) → (r : Result Reply EngineError) → RefusedHolds d r s1 s2 x1 x2 → RefusedHolds d r s0 s2 x0 x2
   later_kept s0 s1 s2 x0 x1 x2 first before (Ok r) kept = λ refused. holds_later d s0 s1 s2 x0 x1 x2 first before (kept refused)
@@ -231,9 +238,9 @@ module _ {D : Type 0} (d : Ghosts D) where
 
   -- ... and a transaction
   pub later_text : (s s1 s2 : Store) (x0 x1 x2 : D) (state : State) (request : Request) → WritesAlone d x0 x1 (λ i. (state : State) → IsAt d s x0 state → IsOf state i) → IsAt d s x0 state → IsSome (d.contents x1)
-      → IsAt d s1 x1 state → ((state : State) (was now : Image) → IsAt d s x0 state → IsSettled d x0 was → IsSettled d x1 now → IsShortened was now) → HoldsOn d s s1 x0 x1 → (IsSome (d.contents x2) → IsSome (d.contents x1))
+      → IsAt d s1 x1 state → may_change_request request ≡ true → ((state : State) (was now : Image) → IsAt d s x0 state → IsSettled d x0 was → IsSettled d x1 now → IsShortened was now) → HoldsOn d s s1 x0 x1 → (IsSome (d.contents x2) → IsSome (d.contents x1))
       → (r : Result (List ℕ) EngineError) → IsCarriedWithText d r state request s1 s2 x1 x2 → IsCarriedWithText d r state request s s2 x0 x2
-  later_text s s1 s2 x0 x1 x2 state request first at told mid short holds before (Ok text) done =
-      (done.0, done.1, later_done d s s1 s2 x0 x1 x2 state request first at told mid short done.0 done.2, λ refused. holds_later d s s1 s2 x0 x1 x2 holds before (done.3 refused))
-  later_text s s1 s2 x0 x1 x2 state request first at told mid short holds before (Err e) done =
-      (later_given_up d s s1 s2 x0 x1 x2 state request first at told mid short e done.0, λ is. holds_later d s s1 s2 x0 x1 x2 holds before (done.1 is))
+  later_text s s1 s2 x0 x1 x2 state request first at told mid may short holds before (Ok text) done =
+      (done.0, done.1, later_done d s s1 s2 x0 x1 x2 state request first at told mid may short done.0 done.2, λ refused. holds_later d s s1 s2 x0 x1 x2 holds before (done.3 refused))
+  later_text s s1 s2 x0 x1 x2 state request first at told mid may short holds before (Err e) done =
+      (later_given_up d s s1 s2 x0 x1 x2 state request first at told mid may short e done.0, λ is. holds_later d s s1 s2 x0 x1 x2 holds before (done.1 is))

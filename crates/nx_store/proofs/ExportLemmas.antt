@@ -35,7 +35,7 @@ use Rattle.nx_script.specs.Reply.{reply_text}
 use Rattle.nx_state.specs.State.{State}
 use Rattle.nx_steps.specs.Answers.{by_stored_document}
 use Rattle.nx_store.specs.Told.{told_by}
-use Rattle.nx_store.specs.Store.{is_ended, HoldsOn, IsAt, IsGiven, IsExported, IsAnswered, StoreTurn, ShowsGiven, ShowsAnswer, ShowsTurn, TakesNone, NotAnswered}
+use Rattle.nx_store.specs.Store.{is_ended, HoldsOn, LeavesLog, IsAt, IsGiven, IsExported, IsAnswered, StoreTurn, ShowsGiven, ShowsAnswer, ShowsTurn, TakesNone, NotAnswered}
 use Rattle.nx_store.specs.Reads.{ReadsToFirst}
 use Rattle.nx_script.specs.declared.request.Request.TheVariants.{Single}
 use Rattle.nx_script.specs.declared.request.Answer.TheVariants.{One}
@@ -45,7 +45,7 @@ use Rattle.nx_store.specs.declared.error.EngineError.TheVariants as error
 use Rattle.nx_store.proofs.CaseLemmas.{export_case}
 use Rattle.nx_store.proofs.AtLemmas.{at_runs, at_image, at_beside}
 use Rattle.nx_store.proofs.FoundLemmas.{IsFound, at_found}
-use Rattle.nx_store.proofs.LogLemmas.{log_of_command}
+use Rattle.nx_store.proofs.LogLemmas.{areas_keep, keeps_on, log_of_look, kept_spares}
 use Rattle.nx_store.proofs.LookLemmas.{absent_answer, lacks_nowhere_with}
 
 -- what ends the reply to an export
@@ -171,20 +171,26 @@ module _ {D : Type 0} (d : Ghosts D) where
           at_image (done.given).0 h.1,
         ))
 
-    pub export_answered : (s0 : Store) → HoldsOn d s0 s x0 x2 → Appends left (d.beside x1).output (d.beside x2).output → IsAnswered d (Ok tt) state (Single (Export name)) s0 s x0 x2
-    export_answered s0 holds grew =
+    export_log : AsksAndGives d x0 x1 → LeavesLog d (Single (Export name)) (One done.reply) state state x0 x2
+    export_log areas =
+        log_of_look d (Export name) done.reply state x0 x2 (refl, λ is. cc)
+        (keeps_on d x0 x1 x2 (areas_keep d x0 x1 areas.contents_stay (told_before left x1 x2 gives told) areas.images_stay)
+        (areas_keep d x1 x2 gives.contents_stay told gives.images_stay))
+
+    pub export_answered : (s0 : Store) → AsksAndGives d x0 x1 → HoldsOn d s0 s x0 x2 → Appends left (d.beside x1).output (d.beside x2).output → IsAnswered d (Ok tt) state (Single (Export name)) s0 s x0 x2
+    export_answered s0 areas holds grew =
         let but = (done.given).1 in
         record {
           turn = export_turn;
           at = at_beside gives told (done.given).0;
           gave = subst (λ (t : List ℕ). Appends t (d.beside x0).output (d.beside x2).output) but.parts (appends_then but.done left (d.beside x0).output (d.beside x1).output (d.beside x2).output but.gave grew);
           time = export_shows;
-          log = log_of_command d (Export name) done.reply state x0 x2 (λ is. cc);
+          log = export_log areas;
           holds = λ refused. holds;
         }
 
-    pub export_unwritten : (s0 : Store) → HoldsOn d s0 s x0 x2 → IsAnswered d (Err error.Write) state (Single (Export name)) s0 s x0 x2
-    export_unwritten s0 holds = (export_turn, at_beside gives told (done.given).0, export_shows, λ refused. holds)
+    pub export_unwritten : (s0 : Store) → AsksAndGives d x0 x1 → HoldsOn d s0 s x0 x2 → IsAnswered d (Err error.Write) state (Single (Export name)) s0 s x0 x2
+    export_unwritten s0 areas holds = (export_turn, at_beside gives told (done.given).0, export_shows, λ refused. holds, export_log areas)
 
   -- what was read where nothing of it was given
   pub export_read : (s0 s1 : Store) (x0 x1 x2 : D) (name left : List ℕ) (gives : TalksAlone d left x1 x2) → AppendsPrefix left (d.beside x1).output (d.beside x2).output → ((state : State) → IsAt d s0 x0 state → IsSome (d.contents x1) → IsExported d (Ok tt) state name [] left s1 x0 x1)
@@ -198,14 +204,25 @@ module _ {D : Type 0} (d : Ghosts D) where
       (read.0, let few = read.1 in omega (arith, few, same), read.2)
 
   -- an export that gave up
-  pub export_failed : (e : EngineError) (s0 s : Store) (x0 x1 : D) (state : State) (name left : List ℕ) → (is_ended s ≡ false → HoldsOn d s0 s x0 x1) → IsExported d (Err e) state name [] left s x0 x1 → IsAnswered d (Err e) state (Single (Export name)) s0 s x0 x1
-  export_failed error.Write s0 s x0 x1 state name left holds done = (record { reply = One done.reply; next = state; step = done.step }, done.given, elapsed_weaker done.time (λ m h. inr h), λ refused. holds (at_runs done.given))
-  export_failed error.Memory s0 s x0 x1 state name left holds done = (done.given, inr (record { name = name; is = refl; reply = done.reply; step = done.step; time = done.time }), holds (at_runs done.given))
-  export_failed error.Disk s0 s x0 x1 state name left holds done = inr (record { name = name; is = refl; reply = done.reply; step = done.step; time = done.time })
-  export_failed error.Exists s0 s x0 x1 state name left holds done = absurd done.given
-  export_failed error.NotAStore s0 s x0 x1 state name left holds done = absurd done.given
-  export_failed (error.Damaged page) s0 s x0 x1 state name left holds done = absurd done.given
-  export_failed error.Ended s0 s x0 x1 state name left holds done = absurd done.given
+  pub export_failed : (e : EngineError) (s0 s : Store) (x0 x1 : D) (state : State) (name left : List ℕ) → AsksAndGives d x0 x1 → IsSome (d.contents x1) → (is_ended s ≡ false → HoldsOn d s0 s x0 x1) → IsExported d (Err e) state name [] left s x0 x1 → IsAnswered d (Err e) state (Single (Export name)) s0 s x0 x1
+  export_failed error.Write s0 s x0 x1 state name left areas told holds done = (
+    record { reply = One done.reply; next = state; step = done.step },
+    done.given,
+    elapsed_weaker done.time (λ m h. inr h),
+    λ refused. holds (at_runs done.given),
+    log_of_look d (Export name) done.reply state x0 x1 (refl, λ is. cc) (areas_keep d x0 x1 areas.contents_stay told areas.images_stay),
+  )
+  export_failed error.Memory s0 s x0 x1 state name left areas told holds done = (
+    done.given,
+    inr (record { name = name; is = refl; reply = done.reply; step = done.step; time = done.time }),
+    holds (at_runs done.given),
+    kept_spares d (Single (Export name)) x0 x1 (areas_keep d x0 x1 areas.contents_stay told areas.images_stay),
+  )
+  export_failed error.Disk s0 s x0 x1 state name left areas told holds done = inr (record { name = name; is = refl; reply = done.reply; step = done.step; time = done.time })
+  export_failed error.Exists s0 s x0 x1 state name left areas told holds done = absurd done.given
+  export_failed error.NotAStore s0 s x0 x1 state name left areas told holds done = absurd done.given
+  export_failed (error.Damaged page) s0 s x0 x1 state name left areas told holds done = absurd done.given
+  export_failed error.Ended s0 s x0 x1 state name left areas told holds done = absurd done.given
 
   -- no input is taken where output is given behind a call
   pub takes_more : (bytes : List ℕ) (x0 x1 x2 : D) → TakesNone d x0 x1 → GivesAlone d bytes x1 x2 → TakesNone d x0 x2

@@ -4,7 +4,7 @@ mod StepsLemmas
 mod RuleLemmas
 pub mod AtLemmas
 pub mod StayingLemmas
-mod ReadLemmas
+pub mod ReadLemmas
 pub mod ShowLemmas
 pub mod FoundLemmas
 mod RefusalLemmas
@@ -21,7 +21,7 @@ mod RoomLemmas
 mod LoadLemmas
 mod KeepLemmas
 mod StepLemmas
-mod LogLemmas
+pub mod LogLemmas
 mod TextLemmas
 mod EndedLemmas
 mod NamingLemmas

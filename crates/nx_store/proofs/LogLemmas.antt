@@ -1,13 +1,13 @@
 -- A store whose log was emptied, and what commands leave of the log.
-use Rattle.std.proofs.Common.{◌≡◌, ◌+◌, ◌<◌, ◌≤◌, [], Option, None, Some, inl, inr, true, refl, sym, ap, ◌∙◌, subst, arith}
+use Rattle.std.proofs.Common.{◌≡◌, ◌+◌, ◌<◌, ◌≤◌, ◌↔◌, List, [], ◌∷◌, Option, None, Some, inl, inr, true, false, refl, sym, ap, ◌∙◌, subst, arith}
 use Rattle.std.specs.Prelude.{◌≢◌, ◌⊎◌, nat_lt, if◌then◌else◌}
 use Rattle.std.proofs.lemmas.Bool.{le-ltb, lt-ltb}
 use Rattle.std.proofs.lemmas.Bool.{false≢true}
 use Rattle.std.specs.Prelude.{IsSome}
-use Rattle.nx_host.specs.Disk.{Image}
+use Rattle.nx_host.specs.Disk.{Image, Keeps}
 use Rattle.nx_host.specs.declared.disk.Disk.{Ghosts}
 use Rattle.nx_host.specs.Still.{IsStill, IsSettled, WritesAlone}
-use Rattle.nx_host.proofs.DiskLemmas.{settled_still, written_alone_weaker}
+use Rattle.nx_host.proofs.DiskLemmas.{settled_still, settled_kept, written_alone_weaker}
 use Rattle.nx_replay.specs.Log.{Group, groups, replay, HasGroup}
 use Rattle.nx_holdings.specs.Holdings.{Held, Holds}
 use Rattle.nx_records.specs.declared.records.Records.{Records}
@@ -19,10 +19,11 @@ use Rattle.nx_script.specs.declared.command.Command.{Command}
 use Rattle.nx_script.specs.declared.command.Command.TheVariants.{Checkpoint}
 use Rattle.nx_state.specs.State.{State}
 use Rattle.nx_steps.specs.Step.{may_change}
+use Rattle.nx_steps.specs.Requests.{is_refused, may_change_request}
 use Rattle.nx_script.specs.declared.reply.Reply.{Reply}
-use Rattle.nx_store.specs.Store.{longest_log, IsAt, IsOf, IsShortened, HoldsOn, AddsGroup, AddsNoGroup, GoesThrough, LeavesLog}
+use Rattle.nx_store.specs.Store.{longest_log, IsAt, IsOf, IsShortened, HoldsOn, AddsGroup, AddsNoGroup, KeepsImage, is_refusal, GoesThrough, LooksAlone, LeavesLog, MayEmptyLog, SparesLog}
 use Rattle.nx_script.specs.declared.request.Request.{Request}
-use Rattle.nx_script.specs.declared.request.Request.TheVariants.{Single}
+use Rattle.nx_script.specs.declared.request.Request.TheVariants.{Single, Transaction}
 use Rattle.nx_script.specs.declared.request.Answer.{Answer}
 use Rattle.nx_script.specs.declared.request.Answer.TheVariants.{One}
 use Rattle.nx_store.specs.declared.store.Store.{Store}
@@ -63,9 +64,23 @@ module _ {D : Type 0} {d : Ghosts D} (s0 : Store) (r1 : Records) (x0 : D) (follo
       → (state : State) (now : Image) → IsAt d s0 x0 state → IsSettled d x1 now → image_group_count now ≡ 0
   emptied_log x1 none_there state now at settled = let keeps = (dropped state at).keeps in none_counted now (none_there keeps.image now keeps.step settled.here)
 
--- a command that may change a store is no checkpoint
-pub changes_other : (command : Command) → may_change command ≡ true → Single command ≢ Single Checkpoint
-changes_other command may is = let same : command ≡ Checkpoint = cc in false≢true (ap may_change (sym same) ∙ may)
+-- a request that may change a store is no checkpoint
+pub changes_other : (request : Request) → may_change_request request ≡ true → request ≢ Single Checkpoint
+changes_other request may is = false≢true (ap may_change_request (sym is) ∙ may)
+
+-- ... and doesn't look alone
+pub changes_looks : (request : Request) → may_change_request request ≡ true → LooksAlone request → ⊥
+changes_looks request may looks = false≢true (sym looks.0 ∙ may)
+
+-- a transaction with commands may change a store
+pub some_change : (commands : List Command) → commands ≢ [] → may_change_request (Transaction commands) ≡ true
+some_change [] some = absurd (some refl)
+some_change (command ∷ commands) some = refl
+
+-- a command is a checkpoint or another
+checkpoint_or : (command : Command) → (Single command ≡ Single Checkpoint) ⊎ (Single command ≢ Single Checkpoint)
+checkpoint_or Checkpoint = inl refl
+checkpoint_or command = inr (λ is. cc)
 
 module _ {D : Type 0} (d : Ghosts D) where
   -- there is one image
@@ -87,32 +102,71 @@ module _ {D : Type 0} (d : Ghosts D) where
   pub short_shortened : (s : Store) (x : D) (state : State) (was now : Image) → log_length_of s.records ≤ longest_log → IsAt d s x state → IsSettled d x was → IsSettled d x now → IsShortened was now
   short_shortened s x state was now short at before after = let ends = log_at s x state was at before in inr (omega (arith, short, ends), one_image x was now before after)
 
-  -- where nothing was written it stays
-  pub still_none : (s2 : Store) (x0 x1 : D) (state : State) → IsStill d x0 x1 → IsAt d s2 x1 state → AddsNoGroup d x0 x1
-  still_none s2 x0 x1 state still after was image before may =
-      let step = ((after.stands).keeps).step in
-      let same : ((after.stands).keeps).image ≡ was = one_image x1 was ((after.stands).keeps).image (settled_still still before) (step.settled) in
-      inl ((step.settled).only image may ∙ same)
+  -- ---- the image stays
 
-  -- a request that leaves the state, and for which nothing was written, leaves the log
-  pub log_stays : (request : Request) (answer : Answer) (state : State) (before after : D) → request ≢ Single Checkpoint → (GoesThrough request answer → ⊥) → AddsNoGroup d before after → LeavesLog d request answer state state before after
-  log_stays request answer state before after other through none =
-      record { emptied = λ is. absurd (other is); grown = λ changed. absurd (changed refl); once = λ goes. absurd (through goes); none = λ nothing. none }
+  -- where nothing was written
+  pub still_keeps : (x0 x1 : D) → IsStill d x0 x1 → KeepsImage d x0 x1
+  still_keeps x0 x1 still was before = settled_still still before
 
-  -- ... as a command does by itself
-  pub log_of_command : (command : Command) (r : Reply) (state : State) (before after : D) → command ≢ Checkpoint → LeavesLog d (Single command) (One r) state state before after
-  log_of_command command r state before after other =
-      record { emptied = λ is. absurd (other (cc)); grown = λ changed. absurd (changed refl); once = λ goes. absurd goes; none = λ nothing. absurd nothing }
+  -- ... or what was written is beside the areas
+  pub areas_keep : (x0 x1 : D) → Keeps (d.contents x0) (d.contents x1) → IsSome (d.contents x1)
+      → ((i : Image) → d.may_leave x1 i ↔ d.may_leave x0 i) → KeepsImage d x0 x1
+  areas_keep x0 x1 kept told same was before = settled_kept kept told (λ i. (same i).0) before
+
+  pub keeps_on : (x0 x1 x2 : D) → KeepsImage d x0 x1 → KeepsImage d x1 x2 → KeepsImage d x0 x2
+  keeps_on x0 x1 x2 first second was before = second was (first was before)
+
+  kept_none : (x0 x1 : D) → KeepsImage d x0 x1 → AddsNoGroup d x0 x1
+  kept_none x0 x1 keeps was image before may = inl ((keeps was before).only image may)
+
+  -- then a request that leaves the state leaves the log
+  pub log_stays : (request : Request) (answer : Answer) (state : State) (before after : D) → request ≢ Single Checkpoint
+      → (GoesThrough request answer → ⊥) → KeepsImage d before after → LeavesLog d request answer state state before after
+  log_stays request answer state before after other through keeps = record {
+    emptied = λ is. absurd (other is);
+    grown = λ changed. absurd (changed refl);
+    once = λ goes. absurd (through goes);
+    none = λ nothing. kept_none before after keeps;
+    stays = λ looks. keeps;
+  }
+
+  -- ... as a command that looks alone does
+  pub log_of_look : (command : Command) (r : Reply) (state : State) (before after : D) → LooksAlone (Single command)
+      → KeepsImage d before after → LeavesLog d (Single command) (One r) state state before after
+  log_of_look command r state before after looks keeps =
+      log_stays (Single command) (One r) state before after looks.1 (λ goes. false≢true (sym looks.0 ∙ goes.0)) keeps
+
+  -- ... and one that was given up
+  pub kept_spares : (request : Request) (before after : D) → KeepsImage d before after → SparesLog d request before after
+  kept_spares request before after keeps = record {
+    emptied = λ was image there may. inl ((keeps was there).only image may);
+    none = λ other. kept_none before after keeps;
+    stays = λ looks. keeps;
+  }
+
+  -- a command that was carried out may leave the state, and there was no memory for its text
+  pub told_spares : (command : Command) (r : Reply) (state next : State) (before after : D) → may_change command ≡ false
+      → LeavesLog d (Single command) (One r) state next before after → SparesLog d (Single command) before after
+  told_spares command r state next before after quiet log = elim (checkpoint_or command) [
+    | inl is ↦ record {
+      emptied = λ was image there may. inr (log.emptied is image may);
+      none = λ other. absurd (other is);
+      stays = λ looks. absurd (looks.1 is);
+    }
+    | inr other ↦ kept_spares (Single command) before after (log.stays (quiet, other))
+  ]
 
   -- a checkpoint empties it
-  pub log_emptied : (s : Store) (r : Reply) (state : State) (before after : D) → ((now : Image) → IsSettled d after now → image_group_count now ≡ 0) → IsAt d s after state → LeavesLog d (Single Checkpoint) (One r) state state before after
-  log_emptied s r state before after none at =
+  pub log_emptied : (s : Store) (r : Reply) (state : State) (before after : D) → is_refused r ≡ false → ((now : Image) → IsSettled d after now → image_group_count now ≡ 0)
+      → IsAt d s after state → LeavesLog d (Single Checkpoint) (One r) state state before after
+  log_emptied s r state before after taken none at =
       let keeps = (at.stands).keeps in
       let settled = (keeps.step).settled in record {
         emptied = λ is image may. subst (λ (i : Image). image_group_count i ≡ 0) (sym (settled.only image may)) (none keeps.image settled);
         grown = λ changed. absurd (changed refl);
-        once = λ goes. absurd goes;
-        none = λ nothing. absurd nothing;
+        once = λ goes. absurd (false≢true goes.0);
+        none = λ refused. absurd (false≢true (sym taken ∙ refused));
+        stays = λ looks. absurd (looks.1 refl);
       }
 
   -- a commit over a short log adds a group
@@ -147,10 +201,24 @@ module _ {D : Type 0} (d : Ghosts D) where
         both (inl long) (inr again) = inr (long.0, again.1)
         both (inr short) after = subst (λ (i : Image). (image ≡ i) ⊎ ((longest_log < log_end i) × (image_group_count image ≡ 0))) short.1 after
 
-    pub log_later : (request : Request) (answer : Answer) (state next : State) → LeavesLog d request answer state next x1 x2 → LeavesLog d request answer state next x0 x2
-    log_later request answer state next leaves = record {
+    pub log_later : (request : Request) (answer : Answer) (state next : State) → may_change_request request ≡ true
+        → LeavesLog d request answer state next x1 x2 → LeavesLog d request answer state next x0 x2
+    log_later request answer state next may leaves = record {
       emptied = leaves.emptied;
       grown = λ changed. adds_later (leaves.grown changed);
       once = λ goes. adds_later (leaves.once goes);
       none = λ nothing. none_later (leaves.none nothing);
+      stays = λ looks. absurd (changes_looks request may looks);
     }
+
+    pub spares_later : (request : Request) → may_change_request request ≡ true → SparesLog d request x1 x2 → SparesLog d request x0 x2
+    spares_later request may spares = record {
+      emptied = λ was image before left. both was image (shortened was before) (spares.emptied mid image settled left);
+      none = λ other. none_later (spares.none other);
+      stays = λ looks. absurd (changes_looks request may looks);
+    }
+      where
+        both : (was image : Image) → IsShortened was mid → (image ≡ mid) ⊎ (image_group_count image ≡ 0) → (image ≡ was) ⊎ (image_group_count image ≡ 0)
+        both was image short (inr none) = inr none
+        both was image (inl long) (inl same) = inr (ap image_group_count same ∙ long.1)
+        both was image (inr short) (inl same) = inl (same ∙ short.1)

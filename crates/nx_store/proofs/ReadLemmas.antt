@@ -25,10 +25,11 @@ use Rattle.nx_nav.specs.Along.{ReadsAlong, ReadsShown}
 use Rattle.nx_nav.specs.Early.{LeavesOutput}
 use Rattle.nx_script.specs.declared.command.Command.{Command}
 use Rattle.nx_script.specs.declared.command.Command.TheVariants as command
+use Rattle.nx_script.specs.declared.request.Request.TheVariants.{Transaction}
 use Rattle.nx_script.specs.declared.reply.Reply.{Reply}
 use Rattle.nx_steps.specs.Step.{may_change}
 use Rattle.nx_store.specs.Store.{is_ended, HoldsOn, RefusedHolds, GoesOn, NotApplied, LeavesStore}
-use Rattle.nx_store.specs.Reads.{ReadsOpening, is_lookup, needs_no_page, GetReads, ReadsWithin, ReadsToFirst}
+use Rattle.nx_store.specs.Reads.{ReadsOpening, is_lookup, needs_no_page, needs_no_page_request, GetReads, ReadsWithin, ReadsToFirst}
 use Rattle.nx_store.specs.declared.store.Store.{Store}
 use Rattle.nx_store.specs.declared.error.EngineError.{EngineError}
 use Rattle.nx_store.specs.declared.error.EngineError.TheVariants as error
@@ -40,6 +41,11 @@ use Rattle.nx_store.proofs.StayingLemmas.{held_on}
 pub on_ok : {T E P : Type 0} (r : Result T E) → P → OnOk r P
 on_ok (Ok x) p = p
 on_ok (Err e) p = tt
+
+-- a transaction whose answer needs no page has no commands
+pub no_commands : (commands : List Command) → needs_no_page_request (Transaction commands) ≡ true → commands ≡ []
+no_commands [] none = refl
+no_commands (command ∷ commands) none = absurd (false≢true none)
 
 -- as many more as there are more
 some_more : (n m : ℕ) → m ≤ n + (m - n)

@@ -1,5 +1,5 @@
 -- The text of a reply that is made behind its command, and given.
-use Rattle.std.proofs.Common.{◌≡◌, ℕ, List, Option, None, Some, true, refl, subst, inl, inr}
+use Rattle.std.proofs.Common.{◌≡◌, ℕ, List, Option, None, Some, true, false, refl, subst, inl, inr}
 use Rattle.std.specs.Prelude.{IsSome, Ok, Err}
 use Rattle.nx_host.specs.Disk.{Keeps}
 use Rattle.nx_host.specs.Host.{Appends, AppendsPrefix}
@@ -10,7 +10,7 @@ use Rattle.nx_host.proofs.DiskLemmas.{told_same}
 use Rattle.nx_script.specs.declared.command.Command.{Command}
 use Rattle.nx_script.specs.declared.reply.Reply.{Reply}
 use Rattle.nx_state.specs.State.{State}
-use Rattle.nx_steps.specs.Step.{Step}
+use Rattle.nx_steps.specs.Step.{may_change}
 use Rattle.nx_script.specs.Reply.{reply_text}
 use Rattle.nx_script.specs.Reply.{answered_text}
 use Rattle.nx_store.specs.Store.{IsAt, IsOf, HoldsOn, RefusedHolds, LeavesLog, IsCarriedThrough, IsLeftUndone, IsApplied, is_refusal, ShowsAnswer, IsAnswered}
@@ -25,6 +25,8 @@ use Rattle.nx_store.specs.declared.error.EngineError.TheVariants as error
 use Rattle.nx_store.proofs.AtLemmas.{at_image, at_beside}
 use Rattle.nx_store.proofs.ReadLemmas.{given_holds}
 use Rattle.nx_store.proofs.ShowLemmas.{shows_weaker}
+use Rattle.nx_store.proofs.LogLemmas.{areas_keep, keeps_on, told_spares}
+use Rattle.nx_store.proofs.CaseLemmas.{quiet_leaves}
 
 -- what was given behind an output that stayed
 appends_kept : (x : List ℕ) (a b c : Option (List ℕ)) → Keeps a b → Appends x b c → Appends x a c
@@ -37,11 +39,11 @@ prefix_kept x a b (Some now) kept (was, n, is, grew) = (was, n, subst (λ o. Kee
 
 module _ {D : Type 0} (d : Ghosts D) where
   -- there was no memory for the text
-  pub untold_applied : (s : Store) (x0 x1 : D) (state : State) (command : Command) (reply : Reply) → ((state next : State) (reply : Reply) → Step state command reply next → next ≡ state)
+  pub untold_applied : (s : Store) (x0 x1 : D) (state : State) (command : Command) (reply : Reply) → may_change command ≡ false
       → IsApplied d (Ok reply) state command s x0 x1 → IsLeftUndone d error.Memory state (Single command) s x0 x1
-  untold_applied s x0 x1 state command reply stays applied =
-      let same = stays state applied.0 reply applied.1 in
-      (subst (λ (n : State). IsAt d s x1 n) same applied.2, shows_weaker d (λ i of. elim of [ inl was ↦ was | inr now ↦ subst (λ (n : State). IsOf n i) same now ]) applied.3)
+  untold_applied s x0 x1 state command reply quiet applied =
+      let same = quiet_leaves command quiet state applied.0 reply applied.1 in
+      (subst (λ (n : State). IsAt d s x1 n) same applied.2, shows_weaker d (λ i of. elim of [ inl was ↦ was | inr now ↦ subst (λ (n : State). IsOf n i) same now ]) applied.3, told_spares d command reply state applied.0 x0 x1 quiet applied.4)
 
   -- the text of a reply stands beside it
   pub told_applied : (s0 s1 : Store) (x0 x1 : D) (state : State) (command : Command) (reply : Reply) (text : List ℕ) → text ≡ reply_text reply → IsApplied d (Ok reply) state command s1 x0 x1 → RefusedHolds d (Ok reply) s0 s1 x0 x1
@@ -56,7 +58,7 @@ module _ {D : Type 0} (d : Ghosts D) where
 
   -- a request that gave up had no answer
   pub failed_answered : (s0 s1 : Store) (x0 x1 : D) (state : State) (request : Request) (e : EngineError) → IsCarriedWithText d (Err e) state request s0 s1 x0 x1 → IsAnswered d (Err e) state request s0 s1 x0 x1
-  failed_answered s0 s1 x0 x1 state request error.Memory done = ((done.0).0, inl (done.0).1, done.1 refl)
+  failed_answered s0 s1 x0 x1 state request error.Memory done = ((done.0).0, inl (done.0).1, done.1 refl, (done.0).2)
   failed_answered s0 s1 x0 x1 state request error.Disk done = inl done.0
   failed_answered s0 s1 x0 x1 state request error.Write done = absurd done.0
   failed_answered s0 s1 x0 x1 state request (error.Damaged page) done = absurd done.0
@@ -82,6 +84,7 @@ module _ {D : Type 0} (d : Ghosts D) where
         grown = λ changed was image before may. (done.4).grown changed was image before ((gives.images_stay image).0 may);
         once = λ goes was image before may. (done.4).once goes was image before ((gives.images_stay image).0 may);
         none = λ nothing was image before may. (done.4).none nothing was image before ((gives.images_stay image).0 may);
+        stays = λ looks. keeps_on d x0 x1 x2 ((done.4).stays looks) (areas_keep d x1 x2 gives.contents_stay told gives.images_stay);
       }
 
       pub given_answered : (is_refusal answer ≡ true → HoldsOn d s0 s x0 x1) → Appends text (d.beside x1).output (d.beside x2).output → IsAnswered d (Ok tt) state request s0 s x0 x2
@@ -100,4 +103,5 @@ module _ {D : Type 0} (d : Ghosts D) where
         at_beside gives told done.2,
         shows_turn,
         λ refused. given_holds d s0 s x0 x1 x2 (AppendsPrefix text (d.beside x1).output) gives (holds refused),
+        log_given,
       )

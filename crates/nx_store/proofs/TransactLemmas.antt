@@ -40,6 +40,7 @@ use Rattle.nx_store.specs.declared.error.EngineError.TheVariants as error
 use Rattle.nx_store.specs.declared.transacting.Refusal.{Refusal}
 use Rattle.nx_store.proofs.AtLemmas.{now_at, shows_still}
 use Rattle.nx_store.proofs.CommitLemmas.{IsReady, left_saved, held_done}
+use Rattle.nx_store.proofs.LogLemmas.{still_keeps, kept_spares}
 use Rattle.nx_store.proofs.ReadLemmas.{unasked_holds}
 use Rattle.nx_store.proofs.StayingLemmas.{held_on}
 use Rattle.nx_store.proofs.KeepLemmas.{later_rose}
@@ -197,6 +198,10 @@ module _ {D : Type 0} (d : Ghosts D) (s0 s1 : Store) (x0 x1 : D) (text longer : 
 pub none_long : (b : Bool) (n : ℕ) → b ≡ (n == 0) → b ≡ true → n ≡ 0
 none_long b n is told = elim (eqb_tells n 0) [ inl s ↦ s.1 | inr a ↦ absurd (false≢true (sym a.0 ∙ sym is ∙ told)) ]
 
+-- ... and one that is told to have some isn't empty
+pub some_long : (commands : List Command) (b : Bool) → b ≡ (length commands == 0) → b ≡ false → commands ≢ []
+some_long commands b is told none = false≢true (sym told ∙ is ∙ ap (λ (ks : List Command). length ks == 0) none)
+
 -- a transaction without commands
 module _ {D : Type 0} (d : Ghosts D) (s : Store) (x : D) where
   pub nothing_done : (commands : List Command) → commands ≡ [] → (text : List ℕ) → text ≡ codes ".\n" → (state : State) → IsAt d s x state → IsSome (d.contents x) → IsCarriedWithText d (Ok text) state (Transaction commands) s s x x
@@ -211,7 +216,7 @@ module _ {D : Type 0} (d : Ghosts D) (s0 s2 : Store) (x0 x1 : D) (still : IsStil
   refused_done (Ok text) is none state at told refused =
       (RefusedAt number e, is, held_done d s0 s2 x0 x1 still (Transaction commands) (RefusedAt number e) holds (λ same. cc) (λ goes. goes) state at told (refused, refl), λ again. holds)
   refused_done (Err x) is none state at told refused =
-      subst (λ (y : EngineError). IsCarriedWithText d (Err y) state (Transaction commands) s0 s2 x0 x1) (sym none) ((held_on d s0 s2 x0 x1 holds state at told, shows_still still at), λ same. holds)
+      subst (λ (y : EngineError). IsCarriedWithText d (Err y) state (Transaction commands) s0 s2 x0 x1) (sym none) ((held_on d s0 s2 x0 x1 holds state at told, shows_still still at, kept_spares d (Transaction commands) x0 x1 (still_keeps d x0 x1 still)), λ same. holds)
 
   pub refused_given_up : (r : Result (List ℕ) EngineError) → GoesOn s0 s2 → IfErr r (λ x. x ≡ error.Memory) → IfErr r (λ x. NotApplied d x s0 s2 x0 x1)
   refused_given_up (Ok text) on none = tt

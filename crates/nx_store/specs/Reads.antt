@@ -15,6 +15,8 @@ use Rattle.nx_nav.specs.Along.{ReadsShown}
 use Rattle.nx_nav.specs.Early.{LeavesOutput}
 use Rattle.nx_script.specs.declared.command.Command.{Command}
 use Rattle.nx_script.specs.declared.command.Command.TheVariants.{Get, Names, Rules, Begin, Commit, Bad}
+use Rattle.nx_script.specs.declared.request.Request.{Request}
+use Rattle.nx_script.specs.declared.request.Request.TheVariants.{Single, Transaction}
 use Rattle.nx_state.specs.State.{State}
 use Rattle.nx_store.specs.Store.{IsAt}
 use Rattle.nx_store.specs.declared.store.Store.{Store}
@@ -47,6 +49,12 @@ needs_no_page (Begin bare) = true
 needs_no_page Commit = true
 needs_no_page Bad = true
 needs_no_page _ = false
+
+-- ... nor does that to a transaction without commands
+abbrev pub needs_no_page_request : Request → Bool
+needs_no_page_request (Single command) = needs_no_page command
+needs_no_page_request (Transaction []) = true
+needs_no_page_request (Transaction (command ∷ commands)) = false
 
 -- the catalog of what is held has this entry under the name
 abbrev pub IsEntryOf : Held → List ℕ → DocEntry → Type 0

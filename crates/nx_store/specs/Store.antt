@@ -15,9 +15,9 @@ use Rattle.nx_script.specs.declared.reply.Reply.{Reply}
 use Rattle.nx_script.specs.Reply.{reply_text}
 use Rattle.nx_state.specs.State.{State}
 use Rattle.nx_state.specs.Stands.{HoldsState, Recovers}
-use Rattle.nx_steps.specs.Step.{Step}
+use Rattle.nx_steps.specs.Step.{may_change, Step}
 use Rattle.nx_script.specs.Reply.{answered_text}
-use Rattle.nx_steps.specs.Requests.{is_refused, RequestStep}
+use Rattle.nx_steps.specs.Requests.{is_refused, may_change_request, RequestStep}
 use Rattle.nx_script.specs.declared.request.Request.{Request}
 use Rattle.nx_script.specs.declared.request.Request.TheVariants.{Single, Transaction}
 use Rattle.nx_script.specs.declared.request.Answer.{Answer}
@@ -75,24 +75,51 @@ abbrev pub AddsNoGroup : {D : Type 0} → Ghosts D → D → D → Type 0
 AddsNoGroup d before after = (was image : Image) → IsSettled d before was → d.may_leave after image
     → (image ≡ was) ⊎ ((longest_log < log_end was) × (image_group_count image ≡ 0))
 
--- a transaction with commands went through
+-- The disk has the image that it had, and a crash leaves that one alone.
+abbrev pub KeepsImage : {D : Type 0} → Ghosts D → D → D → Type 0
+KeepsImage d before after = (was : Image) → IsSettled d before was → IsSettled d after was
+
+-- the answer refuses the request
+abbrev pub is_refusal : Answer → Bool
+is_refusal (One reply) = is_refused reply
+is_refusal (Each replies) = false
+is_refusal (RefusedAt number error) = true
+
+-- a command that may change the store isn't refused, or a transaction with commands
 abbrev pub GoesThrough : Request → Answer → Type 0
+GoesThrough (Single command) (One reply) = (may_change command ≡ true) × (is_refused reply ≡ false)
 GoesThrough (Transaction commands) (Each replies) = commands ≢ []
 GoesThrough request answer = ⊥
 
--- a transaction has no commands, or one of them is refused
+-- a request is refused, or is a transaction without commands
 abbrev pub CommitsNothing : Request → Answer → Type 0
 CommitsNothing (Transaction commands) (Each replies) = commands ≡ []
-CommitsNothing (Transaction commands) (RefusedAt number error) = Unit {0}
-CommitsNothing request answer = ⊥
+CommitsNothing request answer = is_refusal answer ≡ true
 
--- What a request leaves of the log: no group after a `checkpoint`; one more where the state is another, or a transaction with commands went through; none more where
--- a transaction is refused or has no commands.
+-- the request may not change the store, and is no `checkpoint`
+abbrev pub LooksAlone : Request → Type 0
+LooksAlone request = (may_change_request request ≡ false) × (request ≢ Single Checkpoint)
+
+-- What a request leaves of the log: no group after a `checkpoint`; one more where the state is another, or what may change the store went through; none more where
+-- that is refused, or a transaction has no commands. A request that looks alone leaves the image.
 pub record LeavesLog {D : Type 0} (d : Ghosts D) (request : Request) (answer : Answer) (state next : State) (before after : D) : Type 0 where
   pub emptied : request ≡ Single Checkpoint → (image : Image) → d.may_leave after image → image_group_count image ≡ 0
   pub grown : next ≢ state → AddsGroup d before after
   pub once : GoesThrough request answer → AddsGroup d before after
   pub none : CommitsNothing request answer → AddsNoGroup d before after
+  pub stays : LooksAlone request → KeepsImage d before after
+
+-- Each image that a crash may leave is as it was, or its log is empty.
+abbrev pub MayEmptyLog : {D : Type 0} → Ghosts D → D → D → Type 0
+MayEmptyLog d before after = (was image : Image) → IsSettled d before was → d.may_leave after image
+    → (image ≡ was) ⊎ (image_group_count image ≡ 0)
+
+-- What a request leaves of the log that was given up for want of memory: no group more, and maybe none where it is a `checkpoint`. One that looks alone leaves the
+-- image.
+pub record SparesLog {D : Type 0} (d : Ghosts D) (request : Request) (before after : D) : Type 0 where
+  pub emptied : MayEmptyLog d before after
+  pub none : request ≢ Single Checkpoint → AddsNoGroup d before after
+  pub stays : LooksAlone request → KeepsImage d before after
 
 -- it is an image of this state
 abbrev pub IsOf : State → Image → Type 0
@@ -119,7 +146,8 @@ IsCarriedThrough d state request answer store before after =
 
 -- It was given up.
 abbrev pub IsLeftUndone : {D : Type 0} → Ghosts D → EngineError → State → Request → Store → D → D → Type 0
-IsLeftUndone d error.Memory state request store before after = IsAt d store after state × Shows d (IsOf state) before after
+IsLeftUndone d error.Memory state request store before after =
+    IsAt d store after state × Shows d (IsOf state) before after × SparesLog d request before after
 IsLeftUndone d error.Disk state request store before after = ShowsBegun d state request before after
 IsLeftUndone d _ state request store before after = ⊥
 
@@ -133,12 +161,6 @@ abbrev pub RefusedHolds : {D : Type 0} → Ghosts D → Result Reply EngineError
 RefusedHolds d (Ok reply) old new before after = is_refused reply ≡ true → HoldsOn d old new before after
 RefusedHolds d (Err error.Memory) old new before after = HoldsOn d old new before after
 RefusedHolds d (Err _) old new before after = Unit {0}
-
--- the answer refuses the request
-abbrev pub is_refusal : Answer → Bool
-is_refusal (One reply) = is_refused reply
-is_refusal (Each replies) = false
-is_refusal (RefusedAt number error) = true
 
 -- a moment of an answer: nothing of the reply is out, and the image is of the state before or after it; or a part of it may be, and the image is of the state after
 abbrev pub ShowsAnswer : Option (List ℕ) → State → List ℕ → State → Stood → Type 0
@@ -173,9 +195,11 @@ pub record GivesAnswer {D : Type 0} (d : Ghosts D) (state : State) (request : Re
 abbrev pub IsAnswered : {D : Type 0} → Ghosts D → Result (Unit {0}) EngineError → State → Request → Store → Store → D → D → Type 0
 IsAnswered d (Ok _) state request old new before after = GivesAnswer d state request old new before after
 IsAnswered d (Err error.Write) state request old new before after =
-    (turn : StoreTurn state request) × IsAt d new after turn.next × ShowsTurn d turn before after × (is_refusal turn.reply ≡ true → HoldsOn d old new before after)
+    (turn : StoreTurn state request) × IsAt d new after turn.next × ShowsTurn d turn before after
+    × (is_refusal turn.reply ≡ true → HoldsOn d old new before after) × LeavesLog d request turn.reply state turn.next before after
 IsAnswered d (Err error.Memory) state request old new before after =
     IsAt d new after state × (Shows d (IsOf state) before after ⊎ GivesPart d state request before after) × HoldsOn d old new before after
+    × SparesLog d request before after
 IsAnswered d (Err error.Disk) state request old new before after = ShowsBegun d state request before after ⊎ GivesPart d state request before after
 IsAnswered d (Err _) state request old new before after = ⊥
 

@@ -36,7 +36,7 @@ impl Store {
     ghost use Rattle.nx_host.specs.declared.disk.Disk.{Ghosts};
     ghost use Rattle.nx_script.specs.declared.reply.Reply.{Reply};
     ghost use Rattle.nx_nav.specs.Given.{AsksAndGives};
-    ghost use Rattle.nx_store.specs.Reads.{ReadsOpening, needs_no_page, ReadsWithin, ReadsToFirst};
+    ghost use Rattle.nx_store.specs.Reads.{ReadsOpening, needs_no_page, needs_no_page_request, ReadsWithin, ReadsToFirst};
     ghost use Rattle.nx_store.specs.Staying.{LeavesOthers};
     ghost use Rattle.nx_store.specs.Changing.{IsCarriedWithText};
     ghost use Rattle.nx_store.specs.Store.{is_ended, HoldsOn, RefusedHolds, LeavesStore, IsAt, IsApplied, IsAnswered, IsExported, GoesOn, TakesNone, NotApplied, NotAnswered, NotMade, NotOpened};
@@ -136,7 +136,8 @@ impl Store {
     /// or of the state after it, and then the log of each has one group more. Where the log is longer than
     /// 67,108,864 bytes, a checkpoint comes first, so that this group is alone. Once `checkpoint` was answered the
     /// log of no image has a group. All memory is taken before the commit. A command that is refused, or for which
-    /// there is no memory, leaves all that is held.
+    /// there is no memory, leaves all that is held, and the log, but for that checkpoint. One that may not change the
+    /// store, and is no `checkpoint`, leaves the disk's image.
     ///
     /// An edit leaves each record of its document that holds neither a node on the way along the path nor one of a
     /// tree that it deletes, and all records of the other documents, each with its place, bytes and list. A `drop`
@@ -219,7 +220,7 @@ impl Store {
     /// state that those before it left, and commits once, behind the last: at every moment each image is that of the state before
     /// the first or of the state behind the last, and then the log of each has one group more. Where one is refused, or there is no
     /// memory, nothing is committed, and the store holds what it held. A command that may not change the store is refused. All
-    /// records stay of documents that none of the commands names.
+    /// records stay of documents that none of the commands names. One without commands reads no page.
     ///
     /// The request is one that a script can give.
     ///
@@ -239,7 +240,7 @@ impl Store {
         ensures leaves { LeavesOthers ⟦<H as Disk>⟧ request self.old self.new host.old host.new }
         ensures holds { may_change_request request ≡ false → OnOk result (HoldsOn ⟦<H as Disk>⟧ self.old self.new host.old host.new) }
         ensures reads { (command : Command) → request ≡ Request.Single command → ReadsWithin ⟦<H as Disk>⟧ command self.old host.old host.new }
-        ensures unread { (command : Command) → request ≡ Request.Single command → needs_no_page command ≡ true → H.reads host.new ≡ H.reads host.old }
+        ensures unread { needs_no_page_request request ≡ true → H.reads host.new ≡ H.reads host.old }
         ensures early { (name : List ℕ) → request ≡ Request.Single (Command.Export name) → ReadsToFirst ⟦<H as Disk>⟧ name self.old host.old host.new }
     {
         match request {
@@ -289,7 +290,7 @@ impl Store {
         ensures leaves { LeavesOthers ⟦<H as Disk>⟧ request self.old self.new host.old host.new }
         ensures holds { may_change_request request ≡ false → OnOk result (HoldsOn ⟦<H as Disk>⟧ self.old self.new host.old host.new) }
         ensures reads { (command : Command) → request ≡ Request.Single command → ReadsWithin ⟦<H as Disk>⟧ command self.old host.old host.new }
-        ensures unread { (command : Command) → request ≡ Request.Single command → needs_no_page command ≡ true → H.reads host.new ≡ H.reads host.old }
+        ensures unread { needs_no_page_request request ≡ true → H.reads host.new ≡ H.reads host.old }
     {
         let text = self.text_for(rt, host, request)?;
         let Ok(()) = host.emit(text.as_slice()) else {
@@ -374,7 +375,7 @@ impl Store {
         ensures leaves { LeavesOthers D.Disk request self.old self.new disk.old disk.new }
         ensures holds { may_change_request request ≡ false → OnOk result (HoldsOn D.Disk self.old self.new disk.old disk.new) }
         ensures reads { (command : Command) → request ≡ Request.Single command → ReadsWithin D.Disk command self.old disk.old disk.new }
-        ensures unread { (command : Command) → request ≡ Request.Single command → needs_no_page command ≡ true → D.reads disk.new ≡ D.reads disk.old }
+        ensures unread { needs_no_page_request request ≡ true → D.reads disk.new ≡ D.reads disk.old }
     {
         if self.is_ended() {
             return Err(EngineError::Ended);

@@ -141,6 +141,7 @@ impl Store {
         ensures areas { WritesAlone D.Disk disk.old disk.new (λ _. Unit {0}) }
         ensures leaves { LeavesOthers D.Disk (Transaction commands) self.old self.new disk.old disk.new }
         ensures holds { commands ≡ [] → OnOk result (HoldsOn D.Disk self.old self.new disk.old disk.new) }
+        ensures unread { commands ≡ [] → D.reads disk.new ≡ D.reads disk.old }
     {
         if commands.is_empty() {
             let mut text = Bytes::new(self.alloc);

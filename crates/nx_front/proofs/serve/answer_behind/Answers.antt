@@ -11,7 +11,7 @@ pub returns-in-Err-clause-err : goal.returns-in-Err-clause-err
 returns-in-Err-clause-err g c = rw c.status_of.ensures (export_begins c.args.command c.in-Err.error (clock g) c.in-Export.is c.as_slice.ensures c.in-Err.ensures.exports)
 
 pub returns-in_default-export_into-clause-ok : goal.returns-in_default-export_into-clause-ok
-returns-in_default-export_into-clause-ok g c = export_answers c.args.command c.in-Export.is c.as_slice.ensures c.in_default-export_into.ensures.exports
+returns-in_default-export_into-clause-ok g c = export_answers c.args.command c.in-Export.is c.as_slice.ensures c.export_into.ensures.areas c.in_default-export_into.ensures.exports
 
 pub returns-in-Err-apply : goal.returns-in-Err-apply
 returns-in-Err-apply g c =

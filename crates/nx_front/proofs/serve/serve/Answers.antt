@@ -13,12 +13,12 @@ clock g = record { stands_now = g.met.H.Disk.stands_now; only_now = g.met.H.Disk
 pub returns-in-Ok-converse : goal.returns-in-Ok-converse
 returns-in-Ok-converse g c =
     subst (λ (s : Status). Serves g.H.Disk s c.args.host.now c.converse.new.host) (ap conversation_status c.in-Ok-converse.is)
-    (serves_opened (conversation_status c.converse.result) c.open.ensures.still c.in-Ok.ensures.ok c.in-Ok.ensures.marked c.open.ensures.reads c.converse.ensures)
+    (serves_opened (conversation_status c.converse.result) c.open.ensures.still c.in-Ok.ensures.renewed c.in-Ok.ensures.ok c.in-Ok.ensures.marked c.open.ensures.reads c.converse.ensures)
 
 pub returns-in-Ok : goal.returns-in-Ok
 returns-in-Ok g c =
     subst (λ (s : Status). Serves g.H.Disk s c.args.host.now c.converse.new.host) (ap conversation_status c.in-Err-converse.is)
-    (serves_opened (conversation_status c.converse.result) c.open.ensures.still c.in-Ok.ensures.ok c.in-Ok.ensures.marked c.open.ensures.reads c.converse.ensures)
+    (serves_opened (conversation_status c.converse.result) c.open.ensures.still c.in-Ok.ensures.renewed c.in-Ok.ensures.ok c.in-Ok.ensures.marked c.open.ensures.reads c.converse.ensures)
 
 pub returns : goal.returns
 returns g c =

@@ -1,9 +1,9 @@
-use Rattle.std.proofs.Common.{◌≡◌, ℕ, List, sym, subst, ◌∙◌}
+use Rattle.std.proofs.Common.{◌≡◌, ℕ, List, sym, ap, subst, ◌∙◌}
 use Rattle.nx_script.specs.declared.command.Command.{Command}
 use Rattle.nx_script.specs.declared.command.Command.TheVariants.{Export}
 use Rattle.nx_script.specs.declared.request.Request.{Request}
 use Rattle.nx_script.specs.declared.request.Request.TheVariants.{Single}
-use Rattle.nx_store.specs.Reads.{ReadsWithin}
+use Rattle.nx_store.specs.Reads.{needs_no_page_request, ReadsWithin}
 use Rattle.nx_store.specs.Staying.{LeavesOthers}
 use Rattle.nx_store.specs.Store.{IsAnswered}
 use Rattle.nx_store.proofs.store.Store.answer.Goals as goal
@@ -37,3 +37,9 @@ returns-in-Transaction-clause-early g c name is = absurd (let no : ⊥ = cc (c.i
 
 pub returns-in-Single-clause-early : goal.returns-in-Single-clause-early
 returns-in-Single-clause-early g c name is = let same : c.in-Single.command ≡ Export name = cc (c.in-Single.is, is) in c.answer_one.ensures.early name same
+
+pub returns-in-Single-clause-unread : goal.returns-in-Single-clause-unread
+returns-in-Single-clause-unread g c none = c.answer_one.ensures.unread (sym (ap needs_no_page_request c.in-Single.is) ∙ none)
+
+pub returns-in-Transaction-clause-unread : goal.returns-in-Transaction-clause-unread
+returns-in-Transaction-clause-unread g c none = c.answer_whole.ensures.unread (sym (ap needs_no_page_request c.in-Transaction.is) ∙ none)

@@ -18,7 +18,7 @@ pub returns-in_err-export_into-clause-answers : goal.returns-in_err-export_into-
 returns-in_err-export_into-clause-answers g c state at told =
     handed c.from_residual.result (λ (r : Result (Unit {0}) EngineError). IsAnswered g.H.Disk r state (Single (Export c.args.name.now)) c.args.self.now c.export_into.new.self c.args.host.now c.export_into.new.host) c.in_err-export_into.field-0.0
     (err_from_is_err_and c.from_residual.result c.from_residual.ensures.1)
-    (export_failed g.H.Disk c.in_err-export_into.field-0.0 c.args.self.now c.export_into.new.self c.args.host.now c.export_into.new.host state c.args.name.now c.export_into.new.block
+    (export_failed g.H.Disk c.in_err-export_into.field-0.0 c.args.self.now c.export_into.new.self c.args.host.now c.export_into.new.host state c.args.name.now c.export_into.new.block c.export_into.ensures.areas told
     (λ runs. gave_holds g.H.Disk c.args.self.now c.export_into.new.self c.args.host.now c.export_into.new.host c.export_into.ensures.areas (c.export_into.ensures.same runs))
     (from_empty g.H.Disk (Err c.in_err-export_into.field-0.0) c.export_into.new.self c.args.host.now c.export_into.new.host state c.args.name.now c.new-block.result c.export_into.new.block c.new-block.ensures (c.in_err-export_into.ensures.exports state at told)))
 
@@ -41,7 +41,7 @@ returns-in_default-clause-answers g c state at told =
     }) in
     export_unwritten g.H.Disk c.export_into.new.self c.args.host.now c.export_into.new.host c.emit.new.self state c.args.name.now c.export_into.new.block alone.areas told
     (from_empty g.H.Disk (Ok tt) c.export_into.new.self c.args.host.now c.export_into.new.host state c.args.name.now c.new-block.result c.export_into.new.block c.new-block.ensures
-    (c.in_ok-export_into.ensures.exports state at (told_before g.H.Disk c.export_into.new.block c.export_into.new.host c.emit.new.self alone.areas told))) c.args.self.now
+    (c.in_ok-export_into.ensures.exports state at (told_before g.H.Disk c.export_into.new.block c.export_into.new.host c.emit.new.self alone.areas told))) c.args.self.now c.export_into.ensures.areas
     (given_holds g.H.Disk c.args.self.now c.export_into.new.self c.args.host.now c.export_into.new.host c.emit.new.self
     (AppendsPrefix c.export_into.new.block (g.H.Disk.beside c.export_into.new.host).output) alone.areas
     (gave_holds g.H.Disk c.args.self.now c.export_into.new.self c.args.host.now c.export_into.new.host c.export_into.ensures.areas (c.export_into.ensures.same (c.in_ok-export_into.ensures.ok).1)))
@@ -100,7 +100,7 @@ returns-clause-answers g c state at told =
     export_answered g.H.Disk c.export_into.new.self c.args.host.now c.export_into.new.host c.emit.new.self state c.args.name.now c.export_into.new.block alone.areas told
     (from_empty g.H.Disk (Ok tt) c.export_into.new.self c.args.host.now c.export_into.new.host state c.args.name.now c.new-block.result c.export_into.new.block c.new-block.ensures
     (c.in_ok-export_into.ensures.exports state at (told_before g.H.Disk c.export_into.new.block c.export_into.new.host c.emit.new.self alone.areas told)))
-    c.args.self.now
+    c.args.self.now c.export_into.ensures.areas
     (given_holds g.H.Disk c.args.self.now c.export_into.new.self c.args.host.now c.export_into.new.host c.emit.new.self
     (AppendsPrefix c.export_into.new.block (g.H.Disk.beside c.export_into.new.host).output) alone.areas
     (gave_holds g.H.Disk c.args.self.now c.export_into.new.self c.args.host.now c.export_into.new.host c.export_into.ensures.areas (c.export_into.ensures.same (c.in_ok-export_into.ensures.ok).1)))

@@ -45,4 +45,4 @@ pub returns-in_default-clause-reads : goal.returns-in_default-clause-reads
 returns-in_default-clause-reads g c = c.answer_whole.ensures.reads c.args.command refl
 
 pub returns-in_default-clause-unread : goal.returns-in_default-clause-unread
-returns-in_default-clause-unread g c = c.answer_whole.ensures.unread c.args.command refl
+returns-in_default-clause-unread g c = c.answer_whole.ensures.unread

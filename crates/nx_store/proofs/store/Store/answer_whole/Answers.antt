@@ -84,16 +84,14 @@ returns-in_default-clause-reads g c command is =
     given_reads g.H.Disk command c.args.self.now c.args.host.now c.text_for.new.disk c.emit.new.self (c.text_for.ensures.reads command is) c.in_default.ensures.reads
 
 pub returns-in_default-clause-unread : goal.returns-in_default-clause-unread
-returns-in_default-clause-unread g c command is none =
-    c.in_default.ensures.reads ∙ c.text_for.ensures.unread command is none
+returns-in_default-clause-unread g c none = c.in_default.ensures.reads ∙ c.text_for.ensures.unread none
 
 pub returns-clause-reads : goal.returns-clause-reads
 returns-clause-reads g c command is =
     given_reads g.H.Disk command c.args.self.now c.args.host.now c.text_for.new.disk c.emit.new.self (c.text_for.ensures.reads command is) c.in-Ok.ensures.reads
 
 pub returns-clause-unread : goal.returns-clause-unread
-returns-clause-unread g c command is none =
-    c.in-Ok.ensures.reads ∙ c.text_for.ensures.unread command is none
+returns-clause-unread g c none = c.in-Ok.ensures.reads ∙ c.text_for.ensures.unread none
 
 pub returns-clause-holds : goal.returns-clause-holds
 returns-clause-holds g c quiet =

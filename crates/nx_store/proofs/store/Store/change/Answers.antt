@@ -30,7 +30,7 @@ returns-clause-applies g c state at told =
     let before = c.change_shortly.ensures.areas.told told in
     let mid = c.in_ok-shorten_log.ensures.ok.2 state at before in
     later_applied g.D.Disk c.args.self.now c.shorten_log.new.self c.change_shortly.new.self c.args.disk.now c.shorten_log.new.disk c.change_shortly.new.disk state c.args.command c.in_ok-shorten_log.ensures.goes at before
-    mid c.in_ok-shorten_log.ensures.log (reply_of c.change_shortly.result) (c.change_shortly.ensures.applies state mid told)
+    mid c.requires.may c.in_ok-shorten_log.ensures.log (reply_of c.change_shortly.result) (c.change_shortly.ensures.applies state mid told)
 
 pub returns-clause-refused : goal.returns-clause-refused
 returns-clause-refused g c =

@@ -29,7 +29,7 @@ returns-in-Ok-Err-clause-applies g c state at told =
     let x1 = c.prepare_change.new.disk in
     let why = subst (λ (made : Result Reply ReplyError). PreparesNext g.D.Disk c.args.command made c.new-text.result c.prepare_change.new.text s0 s1 x0 x1) c.in-Ok-Err.field-0-is c.in-Ok-Err.ensures.ok in
     let holds = dropped_holds g.D.Disk s0 s1 s2 x0 x1 (left_saved g.D.Disk s0 s1 x0 x1 why.0) c.drop_changes.ensures.drops (c.drop_changes.ensures.catalog ∙ (why.0).catalog) in
-    refused_applied g.D.Disk s0 s2 x0 x1 c.prepare_change.ensures.still c.args.command (changes_other c.args.command c.requires.may) holds (dropped_on g.D.Disk s0 s1 s2 x0 x1 c.drop_changes.ensures.drops (why.0).runs) c.in-Ok-Err.error
+    refused_applied g.D.Disk s0 s2 x0 x1 c.prepare_change.ensures.still c.args.command (changes_other (Single c.args.command) c.requires.may) holds (dropped_on g.D.Disk s0 s1 s2 x0 x1 c.drop_changes.ensures.drops (why.0).runs) c.in-Ok-Err.error
     c.told.result c.told.ensures state at told (why.1 at.held state (now_at at))
 
 pub returns-in-Ok-Err-clause-ok : goal.returns-in-Ok-Err-clause-ok
@@ -41,7 +41,7 @@ returns-in-Ok-Err-clause-ok g c =
     let x1 = c.prepare_change.new.disk in
     let why = subst (λ (made : Result Reply ReplyError). PreparesNext g.D.Disk c.args.command made c.new-text.result c.prepare_change.new.text s0 s1 x0 x1) c.in-Ok-Err.field-0-is c.in-Ok-Err.ensures.ok in
     let holds = dropped_holds g.D.Disk s0 s1 s2 x0 x1 (left_saved g.D.Disk s0 s1 x0 x1 why.0) c.drop_changes.ensures.drops (c.drop_changes.ensures.catalog ∙ (why.0).catalog) in
-    refused_told g.D.Disk s0 s2 x0 x1 c.prepare_change.ensures.still c.args.command (changes_other c.args.command c.requires.may) holds (dropped_on g.D.Disk s0 s1 s2 x0 x1 c.drop_changes.ensures.drops (why.0).runs) c.in-Ok-Err.error
+    refused_told g.D.Disk s0 s2 x0 x1 c.prepare_change.ensures.still c.args.command (changes_other (Single c.args.command) c.requires.may) holds (dropped_on g.D.Disk s0 s1 s2 x0 x1 c.drop_changes.ensures.drops (why.0).runs) c.in-Ok-Err.error
     c.told.result c.told.ensures
 
 pub returns-in-Ok-Err-clause-refused : goal.returns-in-Ok-Err-clause-refused
@@ -53,7 +53,7 @@ returns-in-Ok-Err-clause-refused g c =
     let x1 = c.prepare_change.new.disk in
     let why = subst (λ (made : Result Reply ReplyError). PreparesNext g.D.Disk c.args.command made c.new-text.result c.prepare_change.new.text s0 s1 x0 x1) c.in-Ok-Err.field-0-is c.in-Ok-Err.ensures.ok in
     let holds = dropped_holds g.D.Disk s0 s1 s2 x0 x1 (left_saved g.D.Disk s0 s1 x0 x1 why.0) c.drop_changes.ensures.drops (c.drop_changes.ensures.catalog ∙ (why.0).catalog) in
-    refused_untold g.D.Disk s0 s2 x0 x1 c.prepare_change.ensures.still c.args.command (changes_other c.args.command c.requires.may) holds (dropped_on g.D.Disk s0 s1 s2 x0 x1 c.drop_changes.ensures.drops (why.0).runs) c.in-Ok-Err.error
+    refused_untold g.D.Disk s0 s2 x0 x1 c.prepare_change.ensures.still c.args.command (changes_other (Single c.args.command) c.requires.may) holds (dropped_on g.D.Disk s0 s1 s2 x0 x1 c.drop_changes.ensures.drops (why.0).runs) c.in-Ok-Err.error
     c.told.result c.told.ensures
 
 pub returns-in-Ok-Err-clause-kept : goal.returns-in-Ok-Err-clause-kept
@@ -65,7 +65,7 @@ returns-in-Ok-Err-clause-kept g c =
     let x1 = c.prepare_change.new.disk in
     let why = subst (λ (made : Result Reply ReplyError). PreparesNext g.D.Disk c.args.command made c.new-text.result c.prepare_change.new.text s0 s1 x0 x1) c.in-Ok-Err.field-0-is c.in-Ok-Err.ensures.ok in
     let holds = dropped_holds g.D.Disk s0 s1 s2 x0 x1 (left_saved g.D.Disk s0 s1 x0 x1 why.0) c.drop_changes.ensures.drops (c.drop_changes.ensures.catalog ∙ (why.0).catalog) in
-    refused_kept g.D.Disk s0 s2 x0 x1 c.prepare_change.ensures.still c.args.command (changes_other c.args.command c.requires.may) holds (dropped_on g.D.Disk s0 s1 s2 x0 x1 c.drop_changes.ensures.drops (why.0).runs) c.in-Ok-Err.error
+    refused_kept g.D.Disk s0 s2 x0 x1 c.prepare_change.ensures.still c.args.command (changes_other (Single c.args.command) c.requires.may) holds (dropped_on g.D.Disk s0 s1 s2 x0 x1 c.drop_changes.ensures.drops (why.0).runs) c.in-Ok-Err.error
     c.told.result c.told.ensures
 
 pub returns-in-Ok-Err-clause-leaves : goal.returns-in-Ok-Err-clause-leaves
@@ -133,7 +133,7 @@ returns-clause-applies g c state at told =
     let ready = command_ready g.D.Disk c.args.self.now c.prepare_change.new.self c.args.disk.now c.prepare_change.new.disk c.new-text.result c.prepare_change.new.text c.args.command c.in-Ok-Ok.reply made in
     let after : Store = record { alloc = c.prepare_change.new.self.alloc; records = c.commit.new.self; catalog = c.prepare_change.new.self.catalog } in
     commit_done g.D.Disk (Single c.args.command) (One c.in-Ok-Ok.reply) c.args.self.now c.prepare_change.new.self c.args.disk.now c.prepare_change.new.disk c.commit.new.disk c.prepare_change.ensures.still ready c.commit.ensures.goes state at told
-    after (next_group (next_number c.prepare_change.new.self.records) c.prepare_change.new.self.records.wal) c.requires.short (changes_other c.args.command c.requires.may) (λ nothing. nothing)
+    after (next_group (next_number c.prepare_change.new.self.records) c.prepare_change.new.self.records.wal) c.requires.short c.requires.may (λ refused. false≢true (sym made.taken ∙ refused))
     c.in-Ok.ensures.group c.in-Ok.ensures.step c.in-Ok.ensures.ok c.in-Ok.ensures.none_left.2 refl
 
 pub returns-clause-leaves : goal.returns-clause-leaves

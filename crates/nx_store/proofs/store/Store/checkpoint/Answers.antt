@@ -17,7 +17,7 @@ returns-clause-applies g c state at told =
       inl (refl, refl),
       after,
       shows_written g.D.Disk c.empty_log.ensures.goes told (λ i of. inl (of state at)),
-      log_emptied g.D.Disk c.empty_log.new.self Done state c.args.disk.now c.empty_log.new.disk (λ now. c.in-Ok.ensures.log state now at) after,
+      log_emptied g.D.Disk c.empty_log.new.self Done state c.args.disk.now c.empty_log.new.disk refl (λ now. c.in-Ok.ensures.log state now at) after,
     )
 
 pub returns-in_default-clause-areas : goal.returns-in_default-clause-areas

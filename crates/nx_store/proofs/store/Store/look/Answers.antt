@@ -23,7 +23,7 @@ pub returns-in-Names-clause-applies : goal.returns-in-Names-clause-applies
 returns-in-Names-clause-applies g c state at told =
     let runs = c.requires.runs in
     subst (λ (k : Command). IsApplied g.D.Disk c.names.result state k c.args.self.now c.args.disk.now c.args.disk.now) (sym c.in-Names.is)
-    (looked_applied g.D.Disk Names (λ is. cc) none_still (λ on. leaves_self c.args.self.now) at told c.names.result (if_ok_then c.names.result c.names.ensures.ok (λ reply is. ((runs, runs), λ s there. names_answer reply is there)))
+    (looked_applied g.D.Disk Names (refl, λ is. cc) none_still (λ on. leaves_self c.args.self.now) at told c.names.result (if_ok_then c.names.result c.names.ensures.ok (λ reply is. ((runs, runs), λ s there. names_answer reply is there)))
     (if_err_then c.names.result c.names.ensures.err (λ e is. subst (λ (x : EngineError). NotApplied g.D.Disk x c.args.self.now c.args.self.now c.args.disk.now c.args.disk.now) (sym is) (runs, runs))))
 
 pub returns-in-Names-clause-refused : goal.returns-in-Names-clause-refused
@@ -35,7 +35,7 @@ pub returns-in-Rules-clause-applies : goal.returns-in-Rules-clause-applies
 returns-in-Rules-clause-applies g c state at told =
     let runs = c.requires.runs in
     subst (λ (k : Command). IsApplied g.D.Disk c.rules.result state k c.args.self.now c.args.disk.now c.args.disk.now) (sym c.in-Rules.is)
-    (looked_applied g.D.Disk Rules (λ is. cc) none_still (λ on. leaves_self c.args.self.now) at told c.rules.result (if_ok_then c.rules.result c.rules.ensures.ok (λ reply is. ((runs, runs), λ s there. rules_answer reply is there)))
+    (looked_applied g.D.Disk Rules (refl, λ is. cc) none_still (λ on. leaves_self c.args.self.now) at told c.rules.result (if_ok_then c.rules.result c.rules.ensures.ok (λ reply is. ((runs, runs), λ s there. rules_answer reply is there)))
     (if_err_then c.rules.result c.rules.ensures.err (λ e is. subst (λ (x : EngineError). NotApplied g.D.Disk x c.args.self.now c.args.self.now c.args.disk.now c.args.disk.now) (sym is) (runs, runs))))
 
 pub returns-in-Rules-clause-refused : goal.returns-in-Rules-clause-refused
@@ -47,12 +47,12 @@ pub returns-in-Bad-clause-applies : goal.returns-in-Bad-clause-applies
 returns-in-Bad-clause-applies g c state at told =
     let runs = c.requires.runs in
     subst (λ (k : Command). IsApplied g.D.Disk (Ok (Refused Syntax)) state k c.args.self.now c.args.disk.now c.args.disk.now) (sym c.in-Bad.is)
-    (looked_applied g.D.Disk Bad (λ is. cc) none_still (λ on. leaves_self c.args.self.now) at told (Ok (Refused Syntax)) ((runs, runs), λ s there. (refl, refl)) tt)
+    (looked_applied g.D.Disk Bad (refl, λ is. cc) none_still (λ on. leaves_self c.args.self.now) at told (Ok (Refused Syntax)) ((runs, runs), λ s there. (refl, refl)) tt)
 
 pub returns-in-Export-clause-applies : goal.returns-in-Export-clause-applies
 returns-in-Export-clause-applies g c state at told =
     subst (λ (k : Command). IsApplied g.D.Disk c.export.result state k c.export.new.self c.args.disk.now c.export.new.disk) (sym c.in-Export.is)
-    (looked_applied g.D.Disk (Export c.in-Export.name) (λ is. cc) c.export.ensures.still c.export.ensures.same at told c.export.result c.export.ensures.ok c.export.ensures.refused)
+    (looked_applied g.D.Disk (Export c.in-Export.name) (refl, λ is. cc) c.export.ensures.still c.export.ensures.same at told c.export.result c.export.ensures.ok c.export.ensures.refused)
 
 pub returns-in-Export-clause-ok : goal.returns-in-Export-clause-ok
 returns-in-Export-clause-ok g c = if_ok_then c.export.result c.export.ensures.ok (λ reply ok. ok.0)
@@ -63,7 +63,7 @@ returns-in-Export-clause-areas g c = still_areas g.D.Disk c.export.ensures.still
 pub returns-in-Get-clause-applies : goal.returns-in-Get-clause-applies
 returns-in-Get-clause-applies g c state at told =
     subst (λ (k : Command). IsApplied g.D.Disk c.get.result state k c.get.new.self c.args.disk.now c.get.new.disk) (sym c.in-Get.is)
-    (looked_applied g.D.Disk (Get c.in-Get.name c.in-Get.path) (λ is. cc) c.get.ensures.still c.get.ensures.same at told c.get.result c.get.ensures.ok c.get.ensures.refused)
+    (looked_applied g.D.Disk (Get c.in-Get.name c.in-Get.path) (refl, λ is. cc) c.get.ensures.still c.get.ensures.same at told c.get.result c.get.ensures.ok c.get.ensures.refused)
 
 pub returns-in-Get-clause-ok : goal.returns-in-Get-clause-ok
 returns-in-Get-clause-ok g c = if_ok_then c.get.result c.get.ensures.ok (λ reply ok. ok.0)
@@ -74,7 +74,7 @@ returns-in-Get-clause-areas g c = still_areas g.D.Disk c.get.ensures.still
 pub returns-in-Layout-clause-applies : goal.returns-in-Layout-clause-applies
 returns-in-Layout-clause-applies g c state at told =
     subst (λ (k : Command). IsApplied g.D.Disk c.layout.result state k c.layout.new.self c.args.disk.now c.layout.new.disk) (sym c.in-Layout.is)
-    (looked_applied g.D.Disk (Layout c.in-Layout.name) (λ is. cc) c.layout.ensures.still c.layout.ensures.same at told c.layout.result c.layout.ensures.ok c.layout.ensures.refused)
+    (looked_applied g.D.Disk (Layout c.in-Layout.name) (refl, λ is. cc) c.layout.ensures.still c.layout.ensures.same at told c.layout.result c.layout.ensures.ok c.layout.ensures.refused)
 
 pub returns-in-Layout-clause-ok : goal.returns-in-Layout-clause-ok
 returns-in-Layout-clause-ok g c = if_ok_then c.layout.result c.layout.ensures.ok (λ reply ok. ok.0)
@@ -210,13 +210,13 @@ pub returns-in-Commit-clause-applies : goal.returns-in-Commit-clause-applies
 returns-in-Commit-clause-applies g c state at told =
     let runs = c.requires.runs in
     subst (λ (k : Command). IsApplied g.D.Disk (Ok (Refused Syntax)) state k c.args.self.now c.args.disk.now c.args.disk.now) (sym c.in-Commit.is)
-    (looked_applied g.D.Disk Commit (λ is. cc) none_still (λ on. leaves_self c.args.self.now) at told (Ok (Refused Syntax)) ((runs, runs), λ s there. (refl, refl)) tt)
+    (looked_applied g.D.Disk Commit (refl, λ is. cc) none_still (λ on. leaves_self c.args.self.now) at told (Ok (Refused Syntax)) ((runs, runs), λ s there. (refl, refl)) tt)
 
 pub returns-in-Begin-clause-applies : goal.returns-in-Begin-clause-applies
 returns-in-Begin-clause-applies g c state at told =
     let runs = c.requires.runs in
     subst (λ (k : Command). IsApplied g.D.Disk (Ok (Refused Syntax)) state k c.args.self.now c.args.disk.now c.args.disk.now) (sym c.in-Begin.is)
-    (looked_applied g.D.Disk (Begin c.in-Begin.bare) (λ is. cc) none_still (λ on. leaves_self c.args.self.now) at told (Ok (Refused Syntax)) ((runs, runs), λ s there. (refl, refl)) tt)
+    (looked_applied g.D.Disk (Begin c.in-Begin.bare) (refl, λ is. cc) none_still (λ on. leaves_self c.args.self.now) at told (Ok (Refused Syntax)) ((runs, runs), λ s there. (refl, refl)) tt)
 
 pub returns-in-Commit-clause-leaves : goal.returns-in-Commit-clause-leaves
 returns-in-Commit-clause-leaves g c = unasked_leaves g.D.Disk (Single c.args.command) c.args.self.now c.args.disk.now

@@ -1,12 +1,12 @@
-use Rattle.std.proofs.Common.{◌≡◌, ℕ, List, sym, subst, ◌∙◌}
+use Rattle.std.proofs.Common.{◌≡◌, ℕ, List, sym, ap, subst, ◌∙◌}
 use Rattle.nx_script.specs.declared.command.Command.{Command}
 use Rattle.nx_script.specs.declared.request.Request.{Request}
 use Rattle.nx_script.specs.declared.request.Request.TheVariants.{Single}
 use Rattle.nx_store.specs.Changing.{IsCarriedWithText}
-use Rattle.nx_store.specs.Reads.{ReadsWithin}
+use Rattle.nx_store.specs.Reads.{needs_no_page_request, ReadsWithin}
 use Rattle.nx_store.specs.Staying.{LeavesOthers}
 use Rattle.nx_store.proofs.StayingLemmas.{unasked_leaves}
-use Rattle.nx_store.proofs.ReadLemmas.{ended_reads}
+use Rattle.nx_store.proofs.ReadLemmas.{ended_reads, no_commands}
 use Rattle.nx_store.proofs.store.Store.text_for.Goals as goal
 
 pub returns-then-is_ended-clause-leaves : goal.returns-then-is_ended-clause-leaves
@@ -36,3 +36,10 @@ returns-in-Transaction-clause-writes g c state at told =
 pub returns-in-Transaction-clause-leaves : goal.returns-in-Transaction-clause-leaves
 returns-in-Transaction-clause-leaves g c =
     subst (λ (q : Request). LeavesOthers g.D.Disk q c.args.self.now c.transact.new.self c.args.disk.now c.transact.new.disk) (sym c.in-Transaction.is) c.transact.ensures.leaves
+
+pub returns-in-Single-clause-unread : goal.returns-in-Single-clause-unread
+returns-in-Single-clause-unread g c none = c.text_of.ensures.unread (sym (ap needs_no_page_request c.in-Single.is) ∙ none)
+
+pub returns-in-Transaction-clause-unread : goal.returns-in-Transaction-clause-unread
+returns-in-Transaction-clause-unread g c none =
+    c.transact.ensures.unread (no_commands c.in-Transaction.commands (sym (ap needs_no_page_request c.in-Transaction.is) ∙ none))

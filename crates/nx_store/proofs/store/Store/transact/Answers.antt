@@ -13,7 +13,8 @@ use Rattle.nx_store.proofs.ShowLemmas.{handed, shows_written, on_ok_any}
 use Rattle.nx_store.proofs.StayingLemmas.{ended_leaves, later_leaves, unasked_leaves}
 use Rattle.nx_store.proofs.ReadLemmas.{unasked_holds}
 use Rattle.nx_store.proofs.CommitLemmas.{given_up, later_refused, later_text}
-use Rattle.nx_store.proofs.TransactLemmas.{none_long, nothing_done}
+use Rattle.nx_store.proofs.LogLemmas.{some_change}
+use Rattle.nx_store.proofs.TransactLemmas.{none_long, some_long, nothing_done}
 use Rattle.nx_store.proofs.store.Store.transact.Goals as goal
 
 pub returns-then-is_empty-clause-transacts : goal.returns-then-is_empty-clause-transacts
@@ -52,7 +53,7 @@ returns-clause-transacts g c state at told =
     let before = c.transact_shortly.ensures.areas.told told in
     let mid = c.in_ok-shorten_log.ensures.ok.2 state at before in
     later_text g.D.Disk c.args.self.now c.shorten_log.new.self c.transact_shortly.new.self c.args.disk.now c.shorten_log.new.disk c.transact_shortly.new.disk state (Transaction c.args.commands) c.in_ok-shorten_log.ensures.goes at before
-    mid c.in_ok-shorten_log.ensures.log c.in_ok-shorten_log.ensures.holds c.transact_shortly.ensures.areas.told c.transact_shortly.result (c.transact_shortly.ensures.transacts state mid told)
+    mid (some_change c.args.commands (some_long c.args.commands c.is_empty.result c.is_empty.ensures c.if-is_empty.false)) c.in_ok-shorten_log.ensures.log c.in_ok-shorten_log.ensures.holds c.transact_shortly.ensures.areas.told c.transact_shortly.result (c.transact_shortly.ensures.transacts state mid told)
 
 pub returns-clause-refused : goal.returns-clause-refused
 returns-clause-refused g c =
@@ -64,3 +65,9 @@ pub returns-clause-leaves : goal.returns-clause-leaves
 returns-clause-leaves g c =
     later_leaves g.D.Disk (Transaction c.args.commands) c.args.self.now c.shorten_log.new.self c.transact_shortly.new.self c.args.disk.now c.shorten_log.new.disk c.transact_shortly.new.disk
     c.in_ok-shorten_log.ensures.holds c.transact_shortly.ensures.areas.told c.transact_shortly.ensures.leaves
+
+pub returns-in_err-shorten_log-clause-unread : goal.returns-in_err-shorten_log-clause-unread
+returns-in_err-shorten_log-clause-unread g c none = absurd (some_long c.args.commands c.is_empty.result c.is_empty.ensures c.if-is_empty.false none)
+
+pub returns-clause-unread : goal.returns-clause-unread
+returns-clause-unread g c none = absurd (some_long c.args.commands c.is_empty.result c.is_empty.ensures c.if-is_empty.false none)

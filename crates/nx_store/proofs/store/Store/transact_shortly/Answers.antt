@@ -19,6 +19,7 @@ use Rattle.nx_store.proofs.ShowLemmas.{handed, still_areas, on_ok_any}
 use Rattle.nx_store.proofs.StayingLemmas.{held_leaves, ended_leaves, unasked_leaves}
 use Rattle.nx_store.proofs.ReadLemmas.{unasked_holds}
 use Rattle.nx_store.proofs.CommitLemmas.{dropped_holds, dropped_on, all_give_up, given_up, not_applied, memory_holds, given_up_leaves, commit_begun, commit_done, commit_leaves, commit_refused}
+use Rattle.nx_store.proofs.LogLemmas.{some_change}
 use Rattle.nx_store.proofs.TransactLemmas.{all_ready, refused_done, refused_given_up}
 use Rattle.nx_store.proofs.store.Store.transact_shortly.Goals as goal
 
@@ -128,7 +129,7 @@ returns-clause-transacts g c state at told =
       All made.replies,
       made.told ∙ ap (λ (l : List ℕ). l ++ (flat_map reply_text made.replies ++ codes ".\n")) c.new-text.ensures,
       commit_done g.D.Disk (Transaction c.args.commands) (All made.replies) c.args.self.now c.prepare_all.new.self c.args.disk.now c.prepare_all.new.disk c.commit.new.disk c.prepare_all.ensures.still ready c.commit.ensures.goes state at told
-          after (next_group (next_number c.prepare_all.new.self.records) c.prepare_all.new.self.records.wal) c.requires.short (λ same. cc) c.requires.some
+          after (next_group (next_number c.prepare_all.new.self.records) c.prepare_all.new.self.records.wal) c.requires.short (some_change c.args.commands c.requires.some) c.requires.some
           c.in-Ok.ensures.group c.in-Ok.ensures.step c.in-Ok.ensures.ok c.in-Ok.ensures.none_left.2 refl,
       λ refused. absurd (false≢true refused),
     )
