@@ -21,9 +21,9 @@ Usage: natix STORE COMMAND [ARG]...
 
   natix STORE init K          make a store whose parts weigh at most K, 1 to 256;
                               K may be followed by TARGET, TOLERANCE and PAGES
-  natix STORE run             carry out a script: load, drop, export, insert,
-                              delete, retext, get, names, layout, rule, rules,
-                              checkpoint
+  natix STORE run             carry out a script: load, drop, rename, export,
+                              insert, delete, retext, get, names, layout, rule,
+                              rules, checkpoint; from begin to commit as one
   natix STORE find            answer questions for nodes by name
   natix STORE ask WORKERS     answer a script's questions by 1 to 64 threads
   natix STORE check           say whether the store is sound
