@@ -242,4 +242,7 @@ async def serve(settings: Settings, access: Callable[[], Access]) -> int:
         for task in tasks:
             task.cancel()
         await server.shutdown(1.0)
+        for number in (signal.SIGTERM, signal.SIGINT):  # the process ends by itself now, and with its status
+            loop.remove_signal_handler(number)
+            signal.signal(number, signal.SIG_IGN)
     return 0
