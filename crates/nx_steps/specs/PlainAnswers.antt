@@ -37,8 +37,8 @@ part_replies documents (command ∷ commands) =
     part_reply documents command ∷ part_replies (documents_after documents command) commands
 
 -- none of these replies refuses its command
-abbrev pub AreTaken : List Reply → Type 0
-AreTaken replies = All (λ r. is_refused r ≡ false) replies
+abbrev pub NoneRefused : List Reply → Type 0
+NoneRefused replies = All (λ r. is_refused r ≡ false) replies
 
 -- Over trees in memory the command of this number, counted from 1, is the first that is refused.
 pub record IsPlainlyRefusedAt (documents : Documents) (commands : List Command) (number : ℕ)
@@ -48,7 +48,7 @@ pub record IsPlainlyRefusedAt (documents : Documents) (commands : List Command) 
   pub after : List Command
   pub commands_are : commands ≡ before ++ command ∷ after
   pub number_is : number ≡ length before + 1
-  pub taken : AreTaken (part_replies documents before)
+  pub taken : NoneRefused (part_replies documents before)
   pub refused : part_reply (after_all documents before) command ≡ Refused error
 
 -- The request is answered as over trees in memory, but for the numbers of intervals: a transaction by the replies to all its commands, of which none is
@@ -56,7 +56,7 @@ pub record IsPlainlyRefusedAt (documents : Documents) (commands : List Command) 
 abbrev pub IsAnsweredPlainly : Documents → Request → Answer → Type 0
 IsAnsweredPlainly documents (Single command) (One r) = plain_reply r ≡ reply_to documents command
 IsAnsweredPlainly documents (Transaction commands) (Each replies) =
-    (map plain_reply replies ≡ part_replies documents commands) × AreTaken replies
+    (map plain_reply replies ≡ part_replies documents commands) × NoneRefused replies
 IsAnsweredPlainly documents (Transaction commands) (RefusedAt number error) =
     IsPlainlyRefusedAt documents commands number error
 IsAnsweredPlainly documents request answer = ⊥
